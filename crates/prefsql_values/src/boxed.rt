@@ -1,0 +1,48 @@
+ghost use Rattle.std.specs.Prelude.{◌≡◌, IfOk};
+
+use crate::memory::Memory;
+use std::alloc::Global;
+use std::marker::Model;
+
+/// An owned value on the heap, by which a tree leads back to itself. A contract sees it as the value.
+#[derive(Debug, Drop)]
+pub struct Boxed<T> {
+    inner: Box<T>,
+}
+
+impl<T> Model for Boxed<T> {
+    ghost Value = { T };
+
+    ghost coded = { T.code };
+
+    ghost view = { λ b. b.inner.value };
+}
+
+impl<T> Boxed<T> {
+    /// The value.
+    pub fn get(&self) -> &T
+        ensures { result.now ≡ self.now }
+    {
+        &self.inner
+    }
+
+    /// The value, moved out.
+    pub fn into_inner(self) -> T
+        ensures { result ≡ self }
+    {
+        let Boxed { inner } = self;
+        Box::into_inner(inner)
+    }
+}
+
+impl<T: Drop> Boxed<T> {
+    /// The value on the heap. After want of memory it is dropped.
+    pub fn new(alloc: Global, value: T) -> Result<Boxed<T>, Memory>
+        ensures { IfOk result (λ b. b ≡ value) }
+    {
+        match Box::new(alloc, value) {
+            Ok(inner) => Ok(Boxed { inner }),
+            Err(_) => Err(Memory),
+        }
+    }
+}
