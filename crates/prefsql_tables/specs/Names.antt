@@ -1,0 +1,19 @@
+-- Columns and tables by their names.
+use Rattle.std.specs.Prelude.{ℕ, List, Option, map, position}
+use Rattle.std.specs.Str.{bytes_eq}
+use Rattle.prefsql_tables.specs.declared.schema.Column.{Column}
+use Rattle.prefsql_tables.specs.TableData.{NamedTable}
+
+abbrev pub names_of : List Column → List (List ℕ)
+names_of = map (λ (column : Column). column.name)
+
+-- the position of the column with this name
+abbrev pub column_place : List Column → List ℕ → Option ℕ
+column_place columns name = position (λ (column : Column). bytes_eq name column.name) columns
+
+abbrev pub table_names : List NamedTable → List (List ℕ)
+table_names = map (λ (named : NamedTable). named.name)
+
+-- the position of the table with this name
+abbrev pub table_place : List NamedTable → List ℕ → Option ℕ
+table_place tables name = position (λ (named : NamedTable). bytes_eq name named.name) tables

@@ -1,0 +1,68 @@
+ghost use Rattle.std.specs.Prelude.{◌≡◌, ◌≤◌, ◌<◌, length, IfOk, IfSome};
+ghost use Rattle.prefsql_tables.specs.Valid.{AllDiffer};
+ghost use Rattle.prefsql_tables.specs.Names.{names_of, column_place};
+
+use prefsql_values::{Domain, List, Memory, Text};
+use std::alloc::Global;
+
+/// A column of a table: its name, what it holds, and whether it admits NULL.
+#[derive(Debug, Drop)]
+pub struct Column {
+    pub name: Text,
+    pub domain: Domain,
+    pub nullable: bool,
+}
+
+/// The columns of a table, in their order.
+#[derive(Debug, Drop)]
+pub struct Schema {
+    pub columns: List<Column>,
+}
+
+impl Column {
+    /// An equal column, or want of memory.
+    pub(crate) fn copy(&self, alloc: Global) -> Result<Column, Memory>
+        ensures { IfOk result (λ column. column ≡ self.now) }
+    {
+        Ok(Column {
+            name: self.name.copy(alloc)?,
+            domain: self.domain,
+            nullable: self.nullable,
+        })
+    }
+}
+
+impl Schema {
+    /// The position, from 0, of the column with this name. It is None where no column has the name.
+    pub fn column_at(&self, name: &str) -> Option<u32>
+        requires few { length self.now.columns ≤ 64 }
+        requires differ { AllDiffer (names_of self.now.columns) }
+        ensures place { result ≡ column_place self.now.columns name.now }
+    {
+        match place_among(self.columns.as_slice(), name) {
+            Some(place) => Some(place as u32),
+            None => None,
+        }
+    }
+
+    /// An equal schema, or want of memory.
+    pub fn copy(&self, alloc: Global) -> Result<Schema, Memory>
+        ensures { IfOk result (λ schema. schema ≡ self.now) }
+    {
+        let mut columns = List::new(alloc);
+        for column in self.columns.as_slice() {
+            columns.push(column.copy(alloc)?)?;
+        }
+        Ok(Schema { columns })
+    }
+}
+
+/// The position of the first column with this name.
+fn place_among(columns: &[Column], name: &str) -> Option<usize>
+    ensures place { result ≡ column_place columns.now name.now }
+    ensures within { IfSome result (λ place. place < length columns.now) }
+{
+    columns
+        .iter()
+        .position(|column| name == column.name.as_str())
+}
