@@ -1,6 +1,6 @@
 ghost use Rattle.std.specs.Prelude.{◌≡◌, ◌≤◌, ◌<◌, length, IfOk, IfSome};
 ghost use Rattle.prefsql_tables.specs.Valid.{AllDiffer};
-ghost use Rattle.prefsql_tables.specs.Names.{names_of, column_place};
+ghost use Rattle.prefsql_tables.specs.Names.{IsPlaceAmong, names_of, column_place};
 
 use prefsql_values::{Domain, List, Memory, Text};
 use std::alloc::Global;
@@ -38,6 +38,7 @@ impl Schema {
         requires few { length self.now.columns ≤ 64 }
         requires differ { AllDiffer (names_of self.now.columns) }
         ensures place { result ≡ column_place self.now.columns name.now }
+        ensures named { IsPlaceAmong (names_of self.now.columns) name.now result }
     {
         match place_among(self.columns.as_slice(), name) {
             Some(place) => Some(place as u32),
