@@ -1,14 +1,14 @@
 -- The tables of a set as its map holds them.
-use Rattle.std.proofs.Common.{◌≡◌, ◌≢◌, ℕ, suc, ◌+◌, ◌<◌, List, [], ◌∷◌, ◌++◌, map, length, get_or, Bool, true, false, cond, ◌||◌, Decides, Option, None, Some, Contains, All, not, refl, sym, ap, ◌∙◌, arith, length-append, String, is_some, position}
+use Rattle.std.proofs.Common.{◌≡◌, ℕ, ◌+◌, List, [], ◌∷◌, ◌++◌, map, Bool, true, false, cond, ◌||◌, Decides, Option, None, Some, Contains, not, refl, sym, ap, ◌∙◌, String, is_some, position}
 use Rattle.std.proofs.lemmas.List.{map-append, length-map}
-use Rattle.std.specs.List.{list_any, position_or_len, prefix_len}
+use Rattle.std.specs.List.{list_any, prefix_len}
 use Rattle.std.specs.Map.{lookup, keys_of}
 use Rattle.std.specs.Str.{bytes_eq}
 use Rattle.std.specs.String.{string_bytes, string_eq}
 use Rattle.std.specs.HashMap.{HashMap, get}
 use Rattle.std.specs.declared.alloc.Global.{Global}
 use Rattle.prefsql_tables.specs.Names.{table_names, table_place}
-use Rattle.prefsql_tables.specs.TableData.{TableData, NamedTable}
+use Rattle.prefsql_tables.specs.TableData.{TableData}
 use Rattle.prefsql_tables.specs.TableSetView.{named, named_tables}
 use Rattle.prefsql_tables.proofs.PlaceLemmas.{name_found}
 

@@ -1,10 +1,14 @@
 -- What follows from validity, and how it is kept.
-use Rattle.std.proofs.Common.{◌≡◌, ◌≢◌, ℕ, zero, suc, ◌+◌, ◌<◌, ◌≤◌, List, [], ◌∷◌, ◌++◌, length, get_or, All, Contains, ◌⊎◌, refl, sym, ap, ◌∙◌, arith, length-append}
+use Rattle.std.proofs.Common.{◌≡◌, ℕ, zero, suc, ◌+◌, ◌<◌, ◌^◌, ⊎_elim, List, [], ◌∷◌, ◌++◌, length, get_or, All, Contains, refl, ◌∙◌, arith, length-append}
+use Rattle.std.proofs.lemmas.List.{get_or_append_left, get_or_default, get_or_push, map-append}
 use Rattle.std.proofs.lemmas.List.Elements.{All-append}
-use Rattle.std.specs.List.{AllPairs}
+use Rattle.std.proofs.lemmas.Bool.{cases_lt}
 use Rattle.prefsql_values.specs.declared.value.Value.{Value}
 use Rattle.prefsql_tables.specs.declared.schema.Column.{Column}
-use Rattle.prefsql_tables.specs.Valid.{IsCell, IsRow}
+use Rattle.prefsql_tables.specs.declared.table.AnswerRow.{AnswerRow}
+use Rattle.prefsql_tables.specs.Names.{table_names}
+use Rattle.prefsql_tables.specs.TableData.{TableData, NamedTable}
+use Rattle.prefsql_tables.specs.Valid.{IsCell, IsRow, IsName, IsTable, IsTableSet, AllDiffer}
 
 -- a row has one cell for each column
 pub length-IsRow : (columns : List Column) (values : List Value) → IsRow columns values → length values ≡ length columns
@@ -20,9 +24,45 @@ cell_valid (column ∷ columns) [] k c v valid small = absurd valid
 cell_valid (column ∷ columns) (value ∷ values) zero c v valid small = valid.0
 cell_valid (column ∷ columns) (value ∷ values) (suc k) c v valid small = cell_valid columns values k c v valid.1 (omega arith)
 
+-- a row of a table has one cell for each column
+pub row_width : (table : TableData) (k : ℕ) (d : AnswerRow) → IsTable table → k < length table.rows → length (get_or table.rows k d).cells ≡ length table.columns
+row_width table k d valid small = length-IsRow table.columns (get_or table.rows k d).cells (valid.rows k d small)
+
 -- a row and one more column with its value
 pub IsRow-push : (columns : List Column) (values : List Value) (column : Column) (value : Value) → IsRow columns values → IsCell column value → IsRow (columns ++ column ∷ []) (values ++ value ∷ [])
 IsRow-push [] [] column value valid cell = (cell, tt)
 IsRow-push [] (v ∷ values) column value valid cell = absurd valid
 IsRow-push (c ∷ columns) [] column value valid cell = absurd valid
 IsRow-push (c ∷ columns) (v ∷ values) column value valid cell = (valid.0, IsRow-push columns values column value valid.1 cell)
+
+-- a new name differs from all that are there
+pub AllDiffer-push : (names : List (List ℕ)) (name : List ℕ) → AllDiffer names → (Contains names name → ⊥) → AllDiffer (names ++ name ∷ [])
+AllDiffer-push names name differ new i j d before small =
+    let longer : length (names ++ name ∷ []) ≡ length names + 1 = length-append names (name ∷ []) in
+    let here : get_or (names ++ name ∷ []) i d ≡ get_or names i d = get_or_append_left names (name ∷ []) d i (omega arith) in
+    ⊎_elim
+    (λ within. let there : get_or (names ++ name ∷ []) j d ≡ get_or names j d = get_or_append_left names (name ∷ []) d j within in
+    rw (here, there) (differ i j d before within))
+    (λ past. let last : get_or (names ++ name ∷ []) j d ≡ name = get_or_push names name d j (omega arith) in
+    rw (here, last) (λ same. new (i, omega arith, get_or_default names i name d (omega arith) ∙ same)))
+    (cases_lt j (length names))
+
+-- one item more of which the same holds
+All-push : {X : Type 0} (P : X → Type 0) (xs : List X) (x : X) → All P xs → P x → All P (xs ++ x ∷ [])
+All-push P xs x all last = All-append P xs (x ∷ []) all one
+  where
+    one : All P (x ∷ [])
+    one zero d small = last
+    one (suc k) d small = absurd (omega arith)
+
+-- a valid set and one more valid table of a new name
+pub IsTableSet-push : (tables : List NamedTable) (name : List ℕ) (table : TableData) → IsTableSet tables → IsName name → IsTable table → length tables < 2 ^ 32
+    → (Contains (table_names tables) name → ⊥) → IsTableSet (tables ++ record { name = name; table = table } ∷ [])
+IsTableSet-push tables name table valid named is_table room new =
+    let names : table_names (tables ++ record { name = name; table = table } ∷ []) ≡ table_names tables ++ name ∷ [] = map-append _ tables _ in
+    record {
+      names = rw names (All-push IsName (table_names tables) name valid.names named);
+      differ = rw names (AllDiffer-push (table_names tables) name valid.differ new);
+      all_valid = All-push (λ (entry : NamedTable). IsTable entry.table) tables _ valid.all_valid is_table;
+      few = omega (arith, length-append tables (record { name = name; table = table } ∷ []));
+    }

@@ -1,8 +1,13 @@
-ghost use Rattle.std.specs.Prelude.{◌≡◌, []};
-ghost use Rattle.prefsql_tables.specs.Valid.{IsTableSet};
+ghost use Rattle.std.specs.Prelude.{◌≡◌, ◌<◌, ◌^◌, ◌↔◌, [], ◌∷◌, ◌++◌, length, OnOk, OnErr, IsErrOf, Contains};
+ghost use Rattle.prefsql_values.specs.Value.{value_of};
+ghost use Rattle.prefsql_tables.specs.Names.{IsPlaceAmong, table_names, table_place};
+ghost use Rattle.prefsql_tables.specs.Table.{HasTable, HasCell, table_at, columns_of, rows_of, cell_at};
+ghost use Rattle.prefsql_tables.specs.Valid.{IsName, IsTable, IsTableSet};
 
+use crate::schema::Schema;
 use crate::table::Table;
 use indexmap::IndexMap;
+use prefsql_values::{Cell, Text};
 use std::alloc::Global;
 use std::marker::Model;
 use thiserror::Error;
@@ -44,6 +49,70 @@ impl TableSet {
         TableSet {
             tables: IndexMap::new(alloc),
         }
+    }
+
+    /// Adds the table with this name at the end. After a refusal the set is as it was, and the table is dropped.
+    ///
+    /// Duplicate is the answer exactly where the set has the name already.
+    pub fn add_table(&mut self, name: Text, table: Table) -> Result<(), AddError>
+        requires named { IsName name }
+        requires room { length self.old < 2 ^ 32 }
+        ensures ok { OnOk result (self.new ≡ self.old ++ record { name = name; table = table } ∷ []) }
+        ensures duplicate { IsErrOf result AddError.Duplicate ↔ Contains (table_names self.old) name }
+        ensures err { OnErr result (self.new ≡ self.old) }
+    {
+        table.keeps_limits();
+        let name = name.into_string();
+        if self.tables.contains_key(name.as_str()) {
+            return Err(AddError::Duplicate);
+        }
+        match self.tables.insert(name, table) {
+            Ok(_) => Ok(()),
+            Err(_) => Err(AddError::Memory),
+        }
+    }
+
+    /// The position, from 0, of the table with this name. It is None exactly where no table has the name.
+    pub fn find(&self, name: &str) -> Option<u32>
+        ensures place { result ≡ table_place self.now name.now }
+        ensures named { IsPlaceAmong (table_names self.now) name.now result }
+    {
+        match self.tables.get_index_of(name) {
+            Some(place) => Some(place as u32),
+            None => None,
+        }
+    }
+
+    /// The columns of the table at this position.
+    pub fn schema(&self, table: u32) -> &Schema
+        requires { HasTable self.now table }
+        ensures { result.now.columns ≡ columns_of self.now table }
+    {
+        self.table(table).schema()
+    }
+
+    /// How many rows the table at this position has.
+    pub fn row_count(&self, table: u32) -> u32
+        requires { HasTable self.now table }
+        ensures { result ≡ length (rows_of self.now table) }
+    {
+        self.table(table).row_count()
+    }
+
+    /// The cell of a row and a column, both from 0, of the table at this position. It takes the same time everywhere.
+    pub fn cell(&self, table: u32, row: u32, column: u32) -> Cell<'_>
+        requires { HasCell self.now table row column }
+        ensures { value_of result ≡ cell_at self.now table row column }
+    {
+        self.table(table).cell(row, column)
+    }
+
+    fn table(&self, place: u32) -> &Table
+        requires { HasTable self.now place }
+        ensures { result.now ≡ (table_at self.now place).table }
+    {
+        let (_, table) = self.tables.get_index(place as usize).unwrap();
+        table
     }
 
     /// The law that each set of tables is valid: its names, its tables and the limits of both.

@@ -1,8 +1,10 @@
-ghost use Rattle.std.specs.Prelude.{◌≡◌, [], ◌∷◌, ◌++◌, ◌<◌, length, OnOk, OnErr};
+ghost use Rattle.std.specs.Prelude.{◌≡◌, [], ◌∷◌, ◌++◌, ◌<◌, length, slice_index_or, OnOk, OnErr};
+ghost use Rattle.prefsql_values.specs.Value.{value_of};
+ghost use Rattle.prefsql_tables.specs.Table.{cell_in, no_row};
 ghost use Rattle.prefsql_tables.specs.Valid.{IsSchema, IsRow, IsTable};
 
 use crate::schema::Schema;
-use prefsql_values::{List, Memory, Value};
+use prefsql_values::{Cell, List, Memory, Value};
 use std::alloc::Global;
 use std::marker::Model;
 
@@ -67,10 +69,37 @@ impl Table {
         &self.schema
     }
 
-    /// The rows, in their order.
-    pub(crate) fn rows(&self) -> &[AnswerRow]
-        ensures { result.now ≡ self.now.rows }
+    /// How many rows there are.
+    pub(crate) fn row_count(&self) -> u32
+        ensures { result ≡ length self.now.rows }
     {
-        self.rows.as_slice()
+        self.rows.as_slice().len() as u32
+    }
+
+    /// The cell of a row and a column, both from 0.
+    pub(crate) fn cell(&self, row: u32, column: u32) -> Cell<'_>
+        requires row { row < length self.now.rows }
+        requires column { column < length self.now.columns }
+        ensures { value_of result ≡ cell_in (slice_index_or self.now.rows row no_row) column }
+    {
+        self.row(row).cell(column)
+    }
+
+    fn row(&self, row: u32) -> &AnswerRow
+        requires { row < length self.now.rows }
+        ensures value { result.now ≡ slice_index_or self.now.rows row no_row }
+        ensures width { length result.now.cells ≡ length self.now.columns }
+    {
+        &self.rows.as_slice()[row as usize]
+    }
+}
+
+impl AnswerRow {
+    /// The cell of a column, from 0.
+    fn cell(&self, column: u32) -> Cell<'_>
+        requires { column < length self.now.cells }
+        ensures { value_of result ≡ cell_in self.now column }
+    {
+        self.cells.as_slice()[column as usize].cell()
     }
 }
