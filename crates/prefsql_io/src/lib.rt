@@ -18,3 +18,6 @@ pub use shelf::{LoadError, Shelf};
 pub use sink::Sink;
 pub use source::Source;
 pub use writing::write_all;
+
+#[cfg(test)]
+mod tests;

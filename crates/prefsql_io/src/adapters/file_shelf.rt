@@ -1,9 +1,10 @@
-ghost use Rattle.std.specs.Prelude.{None, false, ◌<◌, ◌≤◌, ◌-◌, ◌^◌, IfOk, vec_len};
+ghost use Rattle.std.specs.Prelude.{◌≡◌, ◌<◌, ◌≤◌, ◌-◌, ◌^◌, None, false, IfOk, vec_len};
 
 use crate::adapters::StdSource;
 use crate::{LoadError, ReadError, Shelf, read_to_end};
 use std::alloc::Global;
 use std::fs;
+use std::marker::Model;
 use std::rt::HostRuntime;
 
 /// A shelf over the files of the system. It tells nothing of them and is not sure. Each load that fails is counted.
@@ -13,9 +14,20 @@ pub struct FileShelf {
     faults: u64,
 }
 
+// A contract sees how often it failed.
+impl Model for FileShelf {
+    ghost use Rattle.std.specs.Prelude.{ℕ};
+
+    ghost Value = { ℕ };
+
+    ghost view = { λ s. s.faults };
+}
+
 impl FileShelf {
-    /// A shelf over the files that this runtime opens.
-    pub fn new(runtime: HostRuntime) -> FileShelf {
+    /// A shelf over the files that this runtime opens, which has not failed yet.
+    pub fn new(runtime: HostRuntime) -> FileShelf
+        ensures { result ≡ 0 }
+    {
         FileShelf { runtime, faults: 0 }
     }
 }
@@ -47,7 +59,7 @@ impl Shelf for FileShelf {
 
     ghost sure = { λ _. false };
 
-    ghost faults = { λ s. s.faults };
+    ghost faults = { λ s. s };
 
     ghost sure_tells = { λ s sure. sure };
 

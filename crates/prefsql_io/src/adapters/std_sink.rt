@@ -1,8 +1,9 @@
-ghost use Rattle.std.specs.Prelude.{None, length, IfOk, ◌≤◌};
+ghost use Rattle.std.specs.Prelude.{◌≡◌, ◌≤◌, None, length, IfOk};
 
 use crate::adapters::RETRIES;
 use crate::{Failed, Sink};
 use std::io::{self, ErrorKind, Write};
+use std::marker::Model;
 
 /// A sink over a writer of std. It tells nothing of content, and flushes what it wrote before it answers. Each write that
 /// fails is counted.
@@ -12,9 +13,20 @@ pub struct StdSink<W: Write> {
     faults: u64,
 }
 
+// A contract sees how often it failed.
+impl<W: Write> Model for StdSink<W> {
+    ghost use Rattle.std.specs.Prelude.{ℕ};
+
+    ghost Value = { ℕ };
+
+    ghost view = { λ s. s.faults };
+}
+
 impl<W: Write> StdSink<W> {
-    /// A sink over this writer.
-    pub fn new(inner: W) -> StdSink<W> {
+    /// A sink over this writer, which has not failed yet.
+    pub fn new(inner: W) -> StdSink<W>
+        ensures { result ≡ 0 }
+    {
         StdSink { inner, faults: 0 }
     }
 }
@@ -54,7 +66,7 @@ fn flush_all<W: Write>(inner: &mut W) -> io::Result<()> {
 impl<W: Write> Sink for StdSink<W> {
     ghost written = { λ _. None };
 
-    ghost faults = { λ s. s.faults };
+    ghost faults = { λ s. s };
 
     fn write(&mut self, bytes: &[u8]) -> Result<usize, Failed> {
         let count = write_some(&mut self.inner, bytes).unwrap_or(0);

@@ -1,9 +1,10 @@
-ghost use Rattle.std.specs.Prelude.{None};
+ghost use Rattle.std.specs.Prelude.{◌≡◌, None};
 ghost use Rattle.std.specs.Io.{ReadsAtMost};
 
 use crate::adapters::RETRIES;
 use crate::{Failed, Source};
 use std::io::{self, ErrorKind, Read};
+use std::marker::Model;
 
 /// A source over a reader of std. It tells nothing of content. Each read that fails is counted.
 #[derive(Drop)]
@@ -12,9 +13,20 @@ pub struct StdSource<R: Read> {
     faults: u64,
 }
 
+// A contract sees how often it failed.
+impl<R: Read> Model for StdSource<R> {
+    ghost use Rattle.std.specs.Prelude.{ℕ};
+
+    ghost Value = { ℕ };
+
+    ghost view = { λ s. s.faults };
+}
+
 impl<R: Read> StdSource<R> {
-    /// A source over this reader.
-    pub fn new(inner: R) -> StdSource<R> {
+    /// A source over this reader, which has not failed yet.
+    pub fn new(inner: R) -> StdSource<R>
+        ensures { result ≡ 0 }
+    {
         StdSource { inner, faults: 0 }
     }
 }
@@ -39,7 +51,7 @@ fn read_some<R: Read>(inner: &mut R, into: &mut [u8]) -> io::Result<usize>
 impl<R: Read> Source for StdSource<R> {
     ghost left = { λ _. None };
 
-    ghost faults = { λ s. s.faults };
+    ghost faults = { λ s. s };
 
     fn read(&mut self, into: &mut [u8]) -> Result<usize, Failed> {
         match read_some(&mut self.inner, into) {
