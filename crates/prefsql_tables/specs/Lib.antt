@@ -1,4 +1,5 @@
 pub mod Names
+pub mod Sight
 pub mod Table
 pub mod TableData
 pub mod TableSetView
