@@ -1,4 +1,6 @@
+pub mod Arranged
 pub mod Names
+pub mod RowOrder
 pub mod Sight
 pub mod Table
 pub mod TableData

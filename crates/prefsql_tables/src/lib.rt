@@ -2,13 +2,14 @@
 #![tactic(auto)]
 
 mod answer;
+mod order;
 mod place;
 mod schema;
 mod set;
 mod sight;
 mod table;
 
-pub use answer::Answer;
+pub use answer::{Answer, has_one_arrangement};
 pub use place::{ColumnPlace, Combo, SortKey};
 pub use schema::{Column, Schema};
 pub use set::{AddError, TableSet};

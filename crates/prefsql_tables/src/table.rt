@@ -78,8 +78,7 @@ impl Table {
 
     /// The cell of a row and a column, both from 0.
     pub(crate) fn cell(&self, row: u32, column: u32) -> Cell<'_>
-        requires row { row < length self.now.rows }
-        requires column { column < length self.now.columns }
+        requires { row < length self.now.rows }
         ensures { value_of result ≡ cell_in (slice_index_or self.now.rows row no_row) column }
     {
         self.row(row).cell(column)
@@ -87,19 +86,20 @@ impl Table {
 
     fn row(&self, row: u32) -> &AnswerRow
         requires { row < length self.now.rows }
-        ensures value { result.now ≡ slice_index_or self.now.rows row no_row }
-        ensures width { length result.now.cells ≡ length self.now.columns }
+        ensures { result.now ≡ slice_index_or self.now.rows row no_row }
     {
         &self.rows.as_slice()[row as usize]
     }
 }
 
 impl AnswerRow {
-    /// The cell of a column, from 0.
-    fn cell(&self, column: u32) -> Cell<'_>
-        requires { column < length self.now.cells }
+    /// The cell of a column, from 0, and NULL past the last one.
+    pub(crate) fn cell(&self, column: u32) -> Cell<'_>
         ensures { value_of result ≡ cell_in self.now column }
     {
-        self.cells.as_slice()[column as usize].cell()
+        match self.cells.as_slice().get(column as usize) {
+            Some(value) => value.cell(),
+            None => Cell::Null,
+        }
     }
 }
