@@ -1,6 +1,10 @@
 pub mod ArrangedLemmas
+pub mod CombosLemmas
+pub mod DistinctLemmas
 pub mod EntryLemmas
 pub mod OrderLemmas
+pub mod PairsLemmas
 pub mod PassLemmas
 pub mod PlaceLemmas
+pub mod ProductLemmas
 pub mod ValidLemmas

@@ -1,5 +1,9 @@
 pub mod Arranged
+pub mod Combos
+pub mod Distinct
 pub mod Names
+pub mod Pairs
+pub mod Product
 pub mod RowOrder
 pub mod Sight
 pub mod Table
