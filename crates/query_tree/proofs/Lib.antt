@@ -1,0 +1,2 @@
+pub mod CondLemmas
+pub mod PrefLemmas
