@@ -1,17 +1,23 @@
+ghost use Rattle.std.specs.Prelude.{◌≡◌, [], ◌∷◌, IfOk};
+
 use super::*;
-use prefsql_values::{List, Value};
+use prefsql_values::{List, Memory, Value};
+use std::alloc::Global;
 use std::test::Fail;
+
+fn row(alloc: Global, first: i128, second: i128) -> Result<PlainRow, Memory>
+    ensures { IfOk result (λ row. row.cells ≡ Value.Num first ∷ Value.Num second ∷ []) }
+{
+    let mut cells = List::new(alloc);
+    cells.push(Value::Num(first))?;
+    cells.push(Value::Num(second))?;
+    Ok(PlainRow { cells })
+}
 
 #[test]
 fn lowest_rows_tie(rt: HostRuntime) -> Result<(), Fail> {
     let alloc = rt.alloc();
-    let mut rows = Vec::new(alloc);
-    for (first, second) in [(3, 7), (1, 9), (2, 7)] {
-        let mut cells = List::new(alloc);
-        cells.push(Value::Num(first))?;
-        cells.push(Value::Num(second))?;
-        rows.push(PlainRow { cells })?;
-    }
+    let rows = [row(alloc, 3, 7)?, row(alloc, 1, 9)?, row(alloc, 2, 7)?];
     let lowest = lowest_rows(alloc, &rows, 1)?;
     assert_eq!(rt; lowest.as_slice(), [0, 2].as_slice());
     Ok(())
