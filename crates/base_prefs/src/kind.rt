@@ -1,13 +1,14 @@
-ghost use Rattle.std.specs.Prelude.{◌≡◌, ◌↔◌, not, IsTrue};
+//! What a base preference is, and how it judges values.
+ghost use Rattle.std.specs.Prelude.{◌≡◌, ◌↔◌, not, IsTrue, IsSome, IfSome};
 ghost use Rattle.prefsql_values.specs.Value.{value_of};
 
 use crate::edge::ValueSet;
 use crate::graph::Graph;
-use crate::judge::{contains, distance_to, layer, number};
+use crate::judge::{contains, distance_from, distance_to, layer, number};
 use prefsql_values::{Cell, List};
 use std::marker::Model;
 
-/// The ten kinds of base preferences.
+/// The ten kinds of base preferences, with each value of a set once.
 #[derive(Debug, Drop)]
 pub enum Kind {
     Pos(ValueSet),
@@ -22,7 +23,9 @@ pub enum Kind {
     Highest,
 }
 
-/// A base preference.
+/// A base preference (Kießling, VLDB 2002): a strict order of the values of one column.
+///
+/// `pos`, `neg`, `pos_pos`, `pos_neg`, `layered`, `explicit`, `around`, `between`, `lowest` and `highest` make one.
 #[derive(Debug, Drop)]
 pub struct BasePref {
     kind: Kind,
@@ -40,8 +43,9 @@ impl Model for BasePref {
 }
 
 impl BasePref {
+    ghost use Rattle.base_prefs.specs.Kind.{IsJudged, level_of, distance_of, has_level, has_distance, key_of, better_of, is_explicit, IsBetter};
     ghost use Rattle.base_prefs.specs.KindLimits.{IsSound};
-    ghost use Rattle.base_prefs.specs.Kind.{IsJudged, level_of, distance_of, key_of, better_of, is_explicit, IsBetter};
+    ghost use Rattle.base_prefs.specs.Level.{IsLevel};
 
     pub(crate) fn of(kind: Kind) -> BasePref
         requires { IsSound kind }
@@ -57,8 +61,30 @@ impl BasePref {
         &self.kind
     }
 
+    /// Every base preference keeps these limits: its values can be written in a script, its sets are not empty and share
+    /// none, each value stands in a set once, and there are at most 256 of them, or 16 in a graph. A law, with no effect.
+    pub fn keeps_limits(&self)
+        ensures { IsSound self.now }
+    {
+        let _kind = self.kind();
+    }
+
+    /// The level of a value, from 1 for the best ones; None for AROUND, BETWEEN, LOWEST and HIGHEST, which have none.
+    ///
+    /// Needs a cell that is not NULL, and at those four kinds a number in plus and minus 10^36. The levels are this
+    /// project's own.
     pub fn level(&self, cell: Cell<'_>) -> Option<u32>
         requires { IsJudged self.now (value_of cell) }
+        ensures level { result ≡ level_of self.now (value_of cell.entry) }
+        ensures meaning { IfSome result (IsLevel self.now (value_of cell.entry)) }
+        ensures some { IsSome result ↔ IsTrue (has_level self.now) }
+    {
+        let _sound = self.kind();
+        self.rank(cell)
+    }
+
+    /// The level.
+    fn rank(&self, cell: Cell<'_>) -> Option<u32>
         ensures { result ≡ level_of self.now (value_of cell.entry) }
     {
         match &self.kind {
@@ -92,17 +118,23 @@ impl BasePref {
         }
     }
 
+    /// How far a value is from the center of AROUND, or from the bounds of BETWEEN: 0 inside them. None for all other
+    /// kinds.
+    ///
+    /// Needs a cell that is not NULL, and at AROUND, BETWEEN, LOWEST and HIGHEST a number in plus and minus 10^36.
     pub fn distance(&self, cell: Cell<'_>) -> Option<i128>
         requires { IsJudged self.now (value_of cell) }
-        ensures { result ≡ distance_of self.now (value_of cell.entry) }
+        ensures distance { result ≡ distance_of self.now (value_of cell.entry) }
+        ensures some { IsSome result ↔ IsTrue (has_distance self.now) }
     {
         match &self.kind {
-            Kind::Around(center) => Some(distance_to(*center, *center, number(cell))),
+            Kind::Around(center) => Some(distance_from(*center, number(cell))),
             Kind::Between(low, up) => Some(distance_to(*low, *up, number(cell))),
             _ => None,
         }
     }
 
+    /// Whether a smaller key is always better: false for EXPLICIT alone.
     pub fn is_weak(&self) -> bool
         ensures { result ≡ not (is_explicit self.now) }
     {
@@ -115,11 +147,11 @@ impl BasePref {
         ensures { result ≡ key_of self.now (value_of cell.entry) }
     {
         match &self.kind {
-            Kind::Around(center) => distance_to(*center, *center, number(cell)),
+            Kind::Around(center) => distance_from(*center, number(cell)),
             Kind::Between(low, up) => distance_to(*low, *up, number(cell)),
             Kind::Lowest => number(cell),
             Kind::Highest => -number(cell),
-            _ => match self.level(cell) {
+            _ => match self.rank(cell) {
                 Some(level) => i128::from(level),
                 None => 0,
             },
