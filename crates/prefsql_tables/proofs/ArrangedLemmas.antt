@@ -11,6 +11,8 @@ use Rattle.std.proofs.lemmas.List.{get_or_append_left, get_or_push, get_or_at}
 use Rattle.std.proofs.lemmas.List.Elements.{Contains-append_left, Contains-append_right, Contains-append_cases, Contains-get_or}
 use Rattle.std.proofs.lemmas.List.Sorted.{ranks_by, sorted_far}
 
+use Rattle.prefsql_tables.proofs.MemberLemmas.{at_head, in_tail, head_or_tail, none_in}
+
 -- the items of a list that rises, each once
 pub record IsOnce {X : Type 0} (R : X → X → Ordering) (done once : List X) : Type 0 where
   pub rising : AllPairs (λ a b. R a b ≡ Less) once
@@ -103,13 +105,6 @@ module _ {X : Type 0} (R : X → X → Ordering) (total : IsTotalOrder R) (ties 
       let order = ranks_by total (λ (z : X). z) in
       behind (get_or xs j d) (get_or xs i d) (sorted_far (λ a b. is_lt (R a b)) order xs sorted i j d (omega arith) small) (differ i j d before small)
 
-  found : (x : X) (xs : List X) (z : X) → Contains (x ∷ xs) z → (x ≡ z) ⊎ Contains xs z
-  found x xs z (zero, small, is) = inl is
-  found x xs z (suc k, small, is) = inr (k, omega arith, is)
-
-  in_more : (x : X) (xs : List X) (z : X) → Contains xs z → Contains (x ∷ xs) z
-  in_more x xs z (k, small, is) = (suc k, omega arith, is)
-
   head_less : (x : X) (xs : List X) (z : X) → AllPairs (λ a b. R a b ≡ Less) (x ∷ xs) → Contains xs z → R x z ≡ Less
   head_less x xs z rising (k, small, is) = subst (λ (y : X). R x y ≡ Less) is (rising 0 (suc k) z (omega arith) (omega arith))
 
@@ -122,20 +117,20 @@ module _ {X : Type 0} (R : X → X → Ordering) (total : IsTotalOrder R) (ties 
       ⊎_elim
       (λ (e : y ≡ x). let tied : R x y ≡ Equal = rw e (tied_itself total x) in cc)
       (λ (c : Contains ys x). let after : R y x ≡ Less = head_less y ys x rising c in let back : R x y ≡ Greater = total.antisymm x y ∙ ap ordering_reverse after in cc)
-      (found y ys x (same x (0, omega arith, refl)))
+      (head_or_tail y ys x (same x (at_head x xs)))
 
   tail_same : (x : X) (xs ys : List X) → AllPairs (λ a b. R a b ≡ Less) (x ∷ xs) → ((z : X) → Contains (x ∷ xs) z → Contains (x ∷ ys) z) → (z : X) → Contains xs z → Contains ys z
   tail_same x xs ys rising same z c =
       ⊎_elim
       (λ (e : x ≡ z). let less : R x z ≡ Less = head_less x xs z rising c in let tied : R x z ≡ Equal = rw (← e) (tied_itself total x) in absurd (cc))
       (λ (k : Contains ys z). k)
-      (found x ys z (same z (in_more x xs z c)))
+      (head_or_tail x ys z (same z (in_tail x xs z c)))
 
   one_rising : (xs ys : List X) → AllPairs (λ a b. R a b ≡ Less) xs → AllPairs (λ a b. R a b ≡ Less) ys
       → ((z : X) → Contains xs z → Contains ys z) → ((z : X) → Contains ys z → Contains xs z) → xs ≡ ys
   one_rising [] [] p q to from = refl
-  one_rising [] (y ∷ ys) p q to from = let c = from y (0, omega arith, refl) in absurd (let n = c.1 in omega arith)
-  one_rising (x ∷ xs) [] p q to from = let c = to x (0, omega arith, refl) in absurd (let n = c.1 in omega arith)
+  one_rising [] (y ∷ ys) p q to from = absurd (none_in y (from y (at_head y ys)))
+  one_rising (x ∷ xs) [] p q to from = absurd (none_in x (to x (at_head x xs)))
   one_rising (x ∷ xs) (y ∷ ys) p q to from =
       elim (R x y) as (λ o. R x y ≡ o → x ∷ xs ≡ y ∷ ys) [
         | Less ↦ λ e. absurd (not_less x y xs ys q to e)

@@ -1,7 +1,9 @@
 pub mod ArrangedLemmas
+pub mod ArrangementLemmas
 pub mod CombosLemmas
 pub mod DistinctLemmas
 pub mod EntryLemmas
+pub mod MemberLemmas
 pub mod OrderLemmas
 pub mod PairsLemmas
 pub mod PassLemmas

@@ -1,4 +1,5 @@
 pub mod Arranged
+pub mod Arrangement
 pub mod Combos
 pub mod Distinct
 pub mod Names
