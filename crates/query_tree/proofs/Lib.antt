@@ -1,2 +1,3 @@
 pub mod CondLemmas
 pub mod PrefLemmas
+pub mod Rising
