@@ -9,7 +9,7 @@ use Rattle.std.proofs.lemmas.Map.Made.{AllPairs-from_IsDistinct, IsDistinct-from
 use Rattle.indexmap.proofs.MapLemmas.{distinct_permutation}
 use Rattle.prefsql_values.proofs.ValueEq.{equivalence_from_Decides}
 use Rattle.prefsql_tables.specs.Arranged.{HasEachOnce, IsArranged}
-use Rattle.prefsql_tables.specs.Arrangement.{placed, in_order, arranged}
+use Rattle.prefsql_tables.specs.Arrangement.{placed, in_order, arranged, HasOneArrangement}
 use Rattle.prefsql_tables.specs.Distinct.{is_same_row, each_once}
 use Rattle.prefsql_tables.specs.RowOrder.{row_order}
 use Rattle.prefsql_tables.specs.declared.place.SortKey.{SortKey}
@@ -101,3 +101,6 @@ arranged_is true keys given =
 -- and the only one
 pub arranged_only : (distinct : Bool) (keys : List SortKey) (given rows : List AnswerRow) → IsArranged distinct keys given rows → rows ≡ arranged distinct keys given
 arranged_only distinct keys given rows is = one_arrangement distinct keys given rows (arranged distinct keys given) is (arranged_is distinct keys given)
+
+pub has_one : HasOneArrangement
+has_one distinct keys given rows = (arranged_only distinct keys given rows, λ same. subst (λ (list : List AnswerRow). IsArranged distinct keys given list) (sym same) (arranged_is distinct keys given))

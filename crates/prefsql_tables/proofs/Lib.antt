@@ -3,6 +3,7 @@ pub mod ArrangementLemmas
 pub mod CombosLemmas
 pub mod DistinctLemmas
 pub mod EntryLemmas
+pub mod ExampleLemmas
 pub mod MemberLemmas
 pub mod OrderLemmas
 pub mod PairsLemmas

@@ -4,7 +4,7 @@ use Rattle.std.specs.List.Sorted.{IsSorted, IsPermutation}
 use Rattle.std.proofs.lemmas.List.{nil_from_length}
 use Rattle.std.proofs.lemmas.List.Sorted.{Contains-permutation, IsPermutation-sym, IsPermutation-trans}
 use Rattle.prefsql_values.proofs.OneSorted.{one_sorted}
-use Rattle.prefsql_tables.specs.Arranged.{IsArranged, KeepsOrderedOnce, HasOneArrangement}
+use Rattle.prefsql_tables.specs.Arranged.{IsArranged, KeepsOrderedOnce}
 use Rattle.prefsql_tables.specs.RowOrder.{row_order}
 use Rattle.prefsql_tables.specs.declared.place.SortKey.{SortKey}
 use Rattle.prefsql_tables.specs.declared.table.AnswerRow.{AnswerRow}
@@ -65,7 +65,8 @@ arranged_once distinct keys given sorted once is moved up keeps =
       sorted = arranged.sorted;
     }
 
-pub one_arrangement : HasOneArrangement
+-- there is at most one arrangement
+pub one_arrangement : (distinct : Bool) (keys : List SortKey) (given xs ys : List AnswerRow) → IsArranged distinct keys given xs → IsArranged distinct keys given ys → xs ≡ ys
 one_arrangement false keys given xs ys a b =
     one_sorted (row_order keys) (row_order_total keys) (row_order_ties keys) xs ys (IsPermutation-trans xs given ys (IsPermutation-sym given xs a.kept) b.kept) a.sorted b.sorted
 one_arrangement true keys given xs ys a b =

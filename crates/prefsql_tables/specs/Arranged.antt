@@ -23,7 +23,3 @@ pub record IsArranged (distinct : Bool) (keys : List SortKey) (given arranged : 
 -- given in the order of some keys, each row is kept once and in that order
 abbrev pub KeepsOrderedOnce : List AnswerRow → List AnswerRow → Type 0
 KeepsOrderedOnce given kept = (keys : List SortKey) → IsSorted (row_order keys) given → IsArranged true keys given kept
-
--- there is at most one such list
-abbrev pub HasOneArrangement : Type 0
-HasOneArrangement = (distinct : Bool) (keys : List SortKey) (given xs ys : List AnswerRow) → IsArranged distinct keys given xs → IsArranged distinct keys given ys → xs ≡ ys

@@ -1,7 +1,8 @@
 ghost use Rattle.std.specs.Prelude.{◌≡◌, ◌≢◌, ◌<◌, ◌-◌, length, IfOk, Contains, slice_index_or};
 ghost use Rattle.std.specs.Bool.{OnTrue, OnFalse};
 ghost use Rattle.std.specs.List.Sorted.{IsSorted, IsPermutation};
-ghost use Rattle.prefsql_tables.specs.Arranged.{IsArranged, KeepsOrderedOnce, HasOneArrangement};
+ghost use Rattle.prefsql_tables.specs.Arranged.{IsArranged, KeepsOrderedOnce};
+ghost use Rattle.prefsql_tables.specs.Arrangement.{HasOneArrangement};
 ghost use Rattle.prefsql_tables.specs.RowOrder.{row_order};
 ghost use Rattle.prefsql_tables.specs.declared.table.AnswerRow.{AnswerRow};
 
@@ -38,7 +39,7 @@ impl Answer {
     }
 }
 
-/// The law that the rows of an answer have one arrangement.
+/// The law that the rows of an answer have exactly one arrangement.
 pub fn has_one_arrangement()
     ensures { HasOneArrangement }
 {}
