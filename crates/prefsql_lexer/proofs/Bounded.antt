@@ -100,7 +100,7 @@ symbol_some : (s : Symbol) → 0 < length (symbol_bytes s)
 symbol_some symbol.LeftParen = omega arith
 symbol_some _ = omega arith
 
-lexeme_some : (bytes : List ℕ) (kind : TokenKind) → IsLexeme bytes kind → 0 < length bytes
+pub lexeme_some : (bytes : List ℕ) (kind : TokenKind) → IsLexeme bytes kind → 0 < length bytes
 lexeme_some (b ∷ bytes) kind is = omega arith
 lexeme_some [] (Word k) is = absurd (let e = is.0.letter in cc)
 lexeme_some [] (Name name) (inl is) = absurd (let e = is.0.letter in cc)
