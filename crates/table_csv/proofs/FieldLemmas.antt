@@ -1,0 +1,58 @@
+-- Texts and digits.
+use Rattle.std.proofs.Common.{◌≡◌, ◌≤◌, ◌<◌, ◌^◌, ◌+◌, ◌-◌, ◌*◌, ◌++◌, ◌∷◌, [], ℕ, List, Bool, true, false, length, take, length-take, get_or, refl, arith, rules}
+use Rattle.std.specs.Char.{is_ascii_digit, digit_value}
+use Rattle.std.specs.List.{list_all, list_any}
+use Rattle.std.specs.Prelude.{◌==◌}
+use Rattle.std.specs.Str.{is_utf8, IsUtf8}
+use Rattle.std.specs.Str.Parse.{digits_value, digits_value_after}
+use Rattle.std.proofs.lemmas.Bool.Decides.{nat_tests}
+use Rattle.std.proofs.lemmas.List.{take_more}
+use Rattle.std.proofs.lemmas.List.Sums.{AllPass-from_list_all, list_all-from_AllPass}
+use Rattle.std.proofs.lemmas.List.Elements.{All-take}
+use Rattle.std.proofs.lemmas.Str.{IsUtf8-from_is_utf8, is_utf8-from_IsUtf8}
+use Rattle.std.proofs.lemmas.Str.Parse.{IsNumeralModel, numerals_by_value, digits_value_short}
+use Rattle.table_csv.specs.Field.{is_text}
+
+-- bytes that are not UTF-8 fail the test
+is_utf8-false : (bytes : List ℕ) → ¬ (IsUtf8 bytes) → is_utf8 bytes ≡ false
+is_utf8-false bytes none = by_test (is_utf8 bytes) refl where
+  by_test : (b : Bool) → is_utf8 bytes ≡ b → b ≡ false
+  by_test true is = absurd (none (IsUtf8-from_is_utf8 bytes is))
+  by_test false is = refl
+
+pub no_utf8 : (field : List ℕ) → ¬ (IsUtf8 field) → is_text field ≡ false
+no_utf8 field none = rw (is_utf8-false field none) refl
+
+pub zero_byte : (field : List ℕ) → IsUtf8 field → list_any (λ b. b == 0) field ≡ true → is_text field ≡ false
+zero_byte field utf8 some = rw (is_utf8-from_IsUtf8 field utf8, some) refl
+
+pub text_true : (field : List ℕ) → IsUtf8 field → list_any (λ b. b == 0) field ≡ false → is_text field ≡ true
+text_true field utf8 none = rw (is_utf8-from_IsUtf8 field utf8, none) refl
+
+-- the digits are those that std reads
+pub decimal_digits : IsNumeralModel (λ ds. list_all is_ascii_digit ds ≡ true) (digits_value 10)
+decimal_digits = numerals_by_value _ (search rules)
+
+digit_value_is : (d : ℕ) → is_ascii_digit d ≡ true → digit_value d ≡ d - 48
+digit_value_is d digit = grind (arith, nat_tests)
+
+digits_value-push : (n : ℕ) (ds : List ℕ) (d : ℕ) → digits_value_after 10 n (ds ++ d ∷ []) ≡ digits_value_after 10 n ds * 10 + digit_value d
+digits_value-push n [] d = refl
+digits_value-push n (x ∷ ds) d = digits_value-push (n * 10 + digit_value x) ds d
+
+-- the digits up to a place and the one there
+pub digits_value_more : (ds : List ℕ) (i : ℕ) → list_all is_ascii_digit ds ≡ true → i < length ds
+    → digits_value 10 (take (i + 1) ds) ≡ digits_value 10 (take i ds) * 10 + (get_or ds i 0 - 48)
+digits_value_more ds i digits lt =
+    rw (take_more ds i 0 lt, digits_value-push 0 (take i ds) (get_or ds i 0), digit_value_is (get_or ds i 0) (AllPass-from_list_all is_ascii_digit ds digits i 0 lt)) refl
+
+digits_take : (ds : List ℕ) (i : ℕ) → list_all is_ascii_digit ds ≡ true → list_all is_ascii_digit (take i ds) ≡ true
+digits_take ds i digits =
+    list_all-from_AllPass is_ascii_digit (take i ds) (All-take (λ d. is_ascii_digit d ≡ true) i ds (AllPass-from_list_all is_ascii_digit ds digits))
+
+-- the value of fewer than 18 digits has room for one more
+pub digits_value_room : (ds : List ℕ) (i : ℕ) → list_all is_ascii_digit ds ≡ true → length ds ≤ 18 → i < length ds → digits_value 10 (take i ds) < 10 ^ 17
+digits_value_room ds i digits few lt = digits_value_short decimal_digits (take i ds) 17 (digits_take ds i digits) (omega (arith, length-take i ds))
+
+pub digits_value_small : (ds : List ℕ) → list_all is_ascii_digit ds ≡ true → length ds ≤ 18 → digits_value 10 ds < 10 ^ 18
+digits_value_small ds digits few = digits_value_short decimal_digits ds 18 digits few

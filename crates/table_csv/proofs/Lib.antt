@@ -1,0 +1,12 @@
+pub mod FaultLemmas
+pub mod FieldLemmas
+pub mod FieldsLemmas
+pub mod HeaderLemmas
+pub mod RecordLemmas
+pub mod RowLemmas
+pub mod SchemaLemmas
+pub mod SourceLemmas
+pub mod TableLemmas
+pub mod ValidLemmas
+pub mod WordsLemmas
+pub mod WriterLemmas

@@ -1,0 +1,9 @@
+pub mod Cell
+pub mod Fault
+pub mod Field
+pub mod FileTable
+pub mod Header
+pub mod Row
+pub mod Source
+pub mod AnswerText
+pub mod Writer

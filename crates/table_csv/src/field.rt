@@ -1,0 +1,81 @@
+//! A field of a table file as a text and as a number.
+
+ghost use Rattle.std.specs.Prelude.{◌≡◌, ◌≤◌, ◌<◌, ◌^◌, true, false, length, MatchOption, IsTrue};
+ghost use Rattle.std.specs.Char.{is_ascii_digit};
+ghost use Rattle.std.specs.List.{list_all};
+ghost use Rattle.std.specs.Str.Parse.{digits_value, starts_with_minus, without_leading_sign};
+ghost use Rattle.table_csv.specs.Fault.{unless_faulty};
+ghost use Rattle.table_csv.specs.Field.{is_text, number_codes, number_in};
+
+use crate::codes::{NO_NUMBER, TOO_MANY_DIGITS};
+use std::str;
+
+/// The most digits of a number, as it is written.
+const MOST_DIGITS: usize = 18;
+
+/// The field as a text. It is None where the field is not UTF-8 or holds the byte 00.
+pub(crate) fn text_of(field: &[u8]) -> Option<&str>
+    ensures { MatchOption result (is_text field.now ≡ false) (λ text. (is_text field.now ≡ true) × (text.now ≡ field.now)) }
+{
+    let Ok(text) = str::from_utf8(field) else {
+        return None;
+    };
+    if field.contains(&0) {
+        return None;
+    }
+    Some(text)
+}
+
+/// The number that a text writes, or the code of its first fault.
+pub(crate) fn number_of(text: &str) -> Result<i128, u16>
+    ensures { result ≡ unless_faulty (number_codes text.now) (number_in text.now) }
+{
+    let digits = without_sign(text.as_bytes());
+    if digits.is_empty() || !are_digits(digits) {
+        return Err(NO_NUMBER);
+    }
+    if digits.len() > MOST_DIGITS {
+        return Err(TOO_MANY_DIGITS);
+    }
+    let size = i128::from(value_of(digits));
+    if is_negative(text.as_bytes()) {
+        return Ok(-size);
+    }
+    Ok(size)
+}
+
+fn is_negative(text: &[u8]) -> bool
+    ensures { result ≡ starts_with_minus text.now }
+{
+    matches!(text, [b'-', ..])
+}
+
+/// What stands behind an optional sign.
+fn without_sign(text: &[u8]) -> &[u8]
+    ensures { result.now ≡ without_leading_sign text.now }
+{
+    match text {
+        [b'+' | b'-', digits @ ..] => digits,
+        _ => text,
+    }
+}
+
+fn are_digits(digits: &[u8]) -> bool
+    ensures { result ≡ list_all is_ascii_digit digits.now }
+{
+    digits.iter().all(|digit| digit.is_ascii_digit())
+}
+
+/// The number that these digits write.
+fn value_of(digits: &[u8]) -> u64
+    requires digits { IsTrue (list_all is_ascii_digit digits.now) }
+    requires few { length digits.now ≤ 18 }
+    ensures value { result ≡ digits_value 10 digits.now }
+    ensures small { result < 10 ^ 18 }
+{
+    let mut value = 0;
+    for digit in digits {
+        value = value * 10 + u64::from(*digit - b'0');
+    }
+    value
+}
