@@ -1,0 +1,9 @@
+pub mod AnswerLemmas
+pub mod Ascii
+pub mod EachLemmas
+pub mod Numbers
+pub mod PositionLemmas
+pub mod RectangleLemmas
+pub mod RunLemmas
+pub mod ScriptLemmas
+pub mod StageLemmas

@@ -1,0 +1,129 @@
+ghost use Rattle.std.specs.Prelude.{◌≡◌, ◌⊎◌, IsTrue};
+ghost use Rattle.std.specs.Io.KnownBytes.{IsAtEnd};
+ghost use Rattle.prefsql_io.specs.Counts.{Rose, IsQuiet};
+ghost use Rattle.prefsql_session.specs.AnswerText.{IsAnswer, IsAnswerable};
+ghost use Rattle.prefsql_session.specs.Course.{course};
+ghost use Rattle.prefsql_session.specs.Faults.{fault_line, usage_line};
+ghost use Rattle.prefsql_session.specs.Stage.{missing};
+
+use crate::answer::answer;
+use crate::fault::USAGE;
+use crate::fault_line::fault_line;
+use crate::prepare::prepare;
+use crate::{Fault, Question, Stop};
+use prefsql_io::{Shelf, Sink, Source, write_all};
+use prefsql_values::{Memory, Steps, Text};
+use std::alloc::Global;
+use std::sync::ledger::Ledger;
+
+/// How a run ended. The program ends with its number, from 0 to 6 in the order of this list.
+#[derive(Clone, Copy, Debug, PartialEq, Eq)]
+pub enum Status {
+    /// The script was read to its end, and the whole text stands on `out`.
+    Done,
+    /// A table file or the script has a fault, and its line stands on `err`.
+    Refused,
+    /// The words are not accepted, and the usage line stands on `err`.
+    Usage,
+    /// The script could not be read.
+    ReadFault,
+    /// `out` or `err` could not be written.
+    WriteFault,
+    /// Want of memory.
+    Memory,
+    /// A file could not be loaded.
+    ShelfFault,
+}
+
+ghost use Rattle.prefsql_session.specs.Run.{EndsAt, FallsShort, HasOneText, IsDueOf, IsReady, IsTextOf, Writes, WritesText, WritesDue};
+
+// Writes these bytes. Where they can't be written, that is how the run ends.
+fn put<O: Sink>(sink: &mut O, bytes: &[u8], status: Status) -> Status
+    ensures { Writes (λ wanted. wanted ≡ bytes.now) status (O.faults sink.old) (O.faults sink.new)
+        (O.written sink.old) (O.written sink.new) result }
+{
+    match write_all(sink, bytes) {
+        Ok(()) => status,
+        Err(_) => Status::WriteFault,
+    }
+}
+
+// Writes the answer to a question on `out`.
+fn write_answer<O: Sink>(alloc: Global, question: &Question, out: &mut O) -> Status
+    requires { IsAnswerable question.now }
+    ensures { Writes (IsAnswer question.now) Status.Done (O.faults out.old) (O.faults out.new)
+        (O.written out.old) (O.written out.new) result }
+{
+    match answer(alloc, question) {
+        Ok(text) => put(out, text.as_slice(), Status::Done),
+        Err(Memory) => Status::Memory,
+    }
+}
+
+// Writes the line of a fault on `err`.
+fn refuse<E: Sink>(alloc: Global, fault: &Fault, err: &mut E) -> Status
+    ensures { Writes (λ line. line ≡ fault_line fault.now) Status.Refused (E.faults err.old) (E.faults err.new)
+        (E.written err.old) (E.written err.new) result }
+{
+    match fault_line(alloc, fault) {
+        Ok(line) => put(err, line.as_bytes(), Status::Refused),
+        Err(_) => Status::Memory,
+    }
+}
+
+// Writes the line for words that are not accepted on `err`.
+fn refuse_words<E: Sink>(err: &mut E) -> Status
+    ensures { Writes (λ line. line ≡ usage_line) Status.Usage (E.faults err.old) (E.faults err.new)
+        (E.written err.old) (E.written err.new) result }
+{
+    put(err, USAGE.as_bytes(), Status::Usage)
+}
+
+/// Runs the program over these words. What the words, the files and the script come to is the run's course, and what
+/// the run writes and how it ends follow from that, want of memory and the faults of the four outer objects.
+pub fn run<S: Source, O: Sink, E: Sink, H: Shelf, L: Ledger>(
+    alloc: Global,
+    words: &[Text],
+    script: &mut S,
+    out: &mut O,
+    err: &mut E,
+    shelf: &mut H,
+    steps: &mut Steps<L>,
+) -> Status
+    ensures status { EndsAt (course words.now (H.files shelf.old) (S.left script.old)) result }
+
+    // What stands on `out` and on `err` then.
+    ensures text { WritesText (course words.now (H.files shelf.old) (S.left script.old)) result
+        (O.written out.old) (O.written out.new) }
+    ensures one_text { HasOneText (course words.now (H.files shelf.old) (S.left script.old)) }
+    ensures due { WritesDue (course words.now (H.files shelf.old) (S.left script.old)) result
+        (E.written err.old) (E.written err.new) }
+    ensures read_whole { result ≡ Status.Done → IsAtEnd (S.left script.new) }
+
+    // No fault is answered by itself.
+    ensures read_fault { result ≡ Status.ReadFault → Rose (S.faults script.old) (S.faults script.new) }
+    ensures write_fault { result ≡ Status.WriteFault
+        → FallsShort (IsTextOf (course words.now (H.files shelf.old) (S.left script.old)))
+        (O.faults out.old) (O.faults out.new) (O.written out.old) (O.written out.new)
+        ⊎ FallsShort (IsDueOf (course words.now (H.files shelf.old) (S.left script.old)))
+        (E.faults err.old) (E.faults err.new) (E.written err.old) (E.written err.new) }
+    ensures shelf_fault { result ≡ Status.ShelfFault → Rose (H.faults shelf.old) (H.faults shelf.new) }
+    ensures sure_shelf { IsTrue (H.sure shelf.old) → result ≡ Status.ShelfFault
+        → course words.now (H.files shelf.old) (S.left script.old) ≡ missing }
+
+    // A run without a fault is done, where memory is granted.
+    ensures complete { IsReady (course words.now (H.files shelf.old) (S.left script.old))
+        → IsQuiet (S.faults script.old) (S.faults script.new)
+        → IsQuiet (O.faults out.old) (O.faults out.new) → IsQuiet (E.faults err.old) (E.faults err.new)
+        → IsTrue (H.sure shelf.old) ⊎ IsQuiet (H.faults shelf.old) (H.faults shelf.new)
+        → (result ≡ Status.Done) ⊎ (result ≡ Status.Memory) }
+{
+    match prepare(alloc, words, script, shelf) {
+        Ok(question) => write_answer(alloc, &question, out),
+        Err(Stop::Usage) => refuse_words(err),
+        Err(Stop::Refused(fault)) => refuse(alloc, &fault, err),
+        Err(Stop::ReadFault) => Status::ReadFault,
+        Err(Stop::ShelfFault) => Status::ShelfFault,
+        Err(Stop::Memory) => Status::Memory,
+    }
+}
