@@ -1,0 +1,4 @@
+pub mod GraphPlaces
+pub mod Judged
+pub mod KeyReads
+pub mod Standings

@@ -1,0 +1,117 @@
+-- How a combination stands by a term, from how it stands by the parts.
+use Rattle.std.proofs.Common.{◌≡◌, ℕ, ◌+◌, Bool, true, false, ◌&&◌, ◌||◌, if◌then◌else◌, List, [], length, length-append, All, refl, ap, ◌∙◌, subst}
+use Rattle.std.specs.Ordering.{ordering_then}
+use Rattle.std.proofs.lemmas.List.Elements.{All-head}
+use Rattle.prefsql_tables.specs.Sight.{Sight}
+use Rattle.base_prefs.specs.Kind as base
+use Rattle.pref_terms.specs.declared.bound.Standing.{Standing}
+use Rattle.pref_terms.specs.declared.bound.Standing.TheVariants.{Better, Same, Other}
+use Rattle.pref_terms.specs.declared.term.Leaf.{Leaf}
+use Rattle.pref_terms.specs.declared.term.Term.{Term, Pareto, Prior}
+use Rattle.pref_terms.specs.declared.term.Term as term
+use Rattle.prefsql_tables.specs.Table.{Tables}
+use Rattle.pref_terms.specs.Fits.{LeafFits, LeavesFit}
+use Rattle.pref_terms.specs.Standing.{standing_of}
+use Rattle.pref_terms.specs.Terms.{Order, order_of, leaf_order, leaves_of, key_order}
+use Rattle.pref_terms.specs.Equations.{order_of-Leaf, order_of-Pareto, order_of-Prior, leaves_of-Leaf, leaves_of-Pareto, leaves_of-Prior, key_order-Leaf, key_order-Pareto, key_order-Prior}
+use Rattle.pref_terms.specs.TermLaws.{All-first, All-second}
+
+abbrev pub by_pareto : Standing → Standing → Standing
+by_pareto Better Better = Better
+by_pareto Better Same = Better
+by_pareto Better Other = Other
+by_pareto Same s = s
+by_pareto Other s = Other
+
+abbrev pub by_prior : Standing → Standing → Standing
+by_prior Better s = Better
+by_prior Same s = s
+by_prior Other s = Other
+
+abbrev told : Bool → Bool → Standing
+told better same = if better then Better else (if same then Same else Other)
+
+told_by_pareto : (b s c t : Bool) → told ((b && (c || t)) || ((b || s) && c)) (s && t) ≡ by_pareto (told b s) (told c t)
+told_by_pareto true true true t = refl
+told_by_pareto true true false true = refl
+told_by_pareto true true false false = refl
+told_by_pareto true false true t = refl
+told_by_pareto true false false true = refl
+told_by_pareto true false false false = refl
+told_by_pareto false true true t = refl
+told_by_pareto false true false true = refl
+told_by_pareto false true false false = refl
+told_by_pareto false false c t = refl
+
+told_by_prior : (b s c t : Bool) → told (b || (s && c)) (s && t) ≡ by_prior (told b s) (told c t)
+told_by_prior true s c t = refl
+told_by_prior false true true t = refl
+told_by_prior false true false true = refl
+told_by_prior false true false false = refl
+told_by_prior false false c t = refl
+
+module _ (y x : Sight) where
+  pub standing-Leaf : (t : Term) (leaf : Leaf) → t ≡ term.Leaf leaf → standing_of (order_of t) y x ≡ standing_of (leaf_order leaf) y x
+  standing-Leaf t leaf is = ap (λ order. standing_of order y x) (ap order_of is ∙ order_of-Leaf leaf)
+
+  pub standing-Pareto : (t p q : Term) → t ≡ Pareto p q → standing_of (order_of t) y x ≡ by_pareto (standing_of (order_of p) y x) (standing_of (order_of q) y x)
+  standing-Pareto t p q is =
+      ap (λ order. standing_of order y x) (ap order_of is ∙ order_of-Pareto p q)
+      ∙ told_by_pareto ((order_of p).better y x) ((order_of p).same y x) ((order_of q).better y x) ((order_of q).same y x)
+
+  pub standing-Prior : (t p q : Term) → t ≡ Prior p q → standing_of (order_of t) y x ≡ by_prior (standing_of (order_of p) y x) (standing_of (order_of q) y x)
+  standing-Prior t p q is =
+      ap (λ order. standing_of order y x) (ap order_of is ∙ order_of-Prior p q)
+      ∙ told_by_prior ((order_of p).better y x) ((order_of p).same y x) ((order_of q).better y x) ((order_of q).same y x)
+
+-- where a term fits, each part fits
+module _ (tables : Tables) (from : List ℕ) (first : ℕ) (rows : List ℕ) where
+  abbrev Fits : Leaf → Type 0
+  Fits = LeafFits tables from first rows
+
+  pub LeavesFit-Leaf : (t : Term) (leaf : Leaf) → t ≡ term.Leaf leaf → LeavesFit tables from first rows t → LeafFits tables from first rows leaf
+  LeavesFit-Leaf t leaf is fits = All-head Fits leaf [] (subst (All Fits) (ap leaves_of is ∙ leaves_of-Leaf leaf) fits.each)
+
+  pub LeavesFit-Pareto_first : (t p q : Term) → t ≡ Pareto p q → LeavesFit tables from first rows t → LeavesFit tables from first rows p
+  LeavesFit-Pareto_first t p q is fits = record { each = All-first Fits (leaves_of p) (leaves_of q) (subst (All Fits) (ap leaves_of is ∙ leaves_of-Pareto p q) fits.each) }
+
+  pub LeavesFit-Pareto_second : (t p q : Term) → t ≡ Pareto p q → LeavesFit tables from first rows t → LeavesFit tables from first rows q
+  LeavesFit-Pareto_second t p q is fits = record { each = All-second Fits (leaves_of p) (leaves_of q) (subst (All Fits) (ap leaves_of is ∙ leaves_of-Pareto p q) fits.each) }
+
+  pub LeavesFit-Prior_first : (t p q : Term) → t ≡ Prior p q → LeavesFit tables from first rows t → LeavesFit tables from first rows p
+  LeavesFit-Prior_first t p q is fits = record { each = All-first Fits (leaves_of p) (leaves_of q) (subst (All Fits) (ap leaves_of is ∙ leaves_of-Prior p q) fits.each) }
+
+  pub LeavesFit-Prior_second : (t p q : Term) → t ≡ Prior p q → LeavesFit tables from first rows t → LeavesFit tables from first rows q
+  LeavesFit-Prior_second t p q is fits = record { each = All-second Fits (leaves_of p) (leaves_of q) (subst (All Fits) (ap leaves_of is ∙ leaves_of-Prior p q) fits.each) }
+
+-- a term has the leaves of both parts
+pub width-Leaf : (t : Term) (leaf : Leaf) → t ≡ term.Leaf leaf → length (leaves_of t) ≡ 1
+width-Leaf t leaf is = ap length (ap leaves_of is ∙ leaves_of-Leaf leaf)
+
+pub width-Pareto : (t p q : Term) → t ≡ Pareto p q → length (leaves_of t) ≡ length (leaves_of p) + length (leaves_of q)
+width-Pareto t p q is = ap length (ap leaves_of is ∙ leaves_of-Pareto p q) ∙ length-append (leaves_of p) (leaves_of q)
+
+pub width-Prior : (t p q : Term) → t ≡ Prior p q → length (leaves_of t) ≡ length (leaves_of p) + length (leaves_of q)
+width-Prior t p q is = ap length (ap leaves_of is ∙ leaves_of-Prior p q) ∙ length-append (leaves_of p) (leaves_of q)
+
+-- the same by both parts
+pub same-Leaf : (t : Term) (leaf : Leaf) → t ≡ term.Leaf leaf → (y x : Sight) → (order_of t).same y x ≡ (leaf_order leaf).same y x
+same-Leaf t leaf is y x = ap (λ (order : Order). order.same y x) (ap order_of is ∙ order_of-Leaf leaf)
+
+pub same-Pareto : (t p q : Term) → t ≡ Pareto p q → (y x : Sight) → (order_of t).same y x ≡ ((order_of p).same y x && (order_of q).same y x)
+same-Pareto t p q is y x = ap (λ (order : Order). order.same y x) (ap order_of is ∙ order_of-Pareto p q)
+
+pub same-Prior : (t p q : Term) → t ≡ Prior p q → (y x : Sight) → (order_of t).same y x ≡ ((order_of p).same y x && (order_of q).same y x)
+same-Prior t p q is y x = ap (λ (order : Order). order.same y x) (ap order_of is ∙ order_of-Prior p q)
+
+-- the keys of the first part, and then of the second
+pub keys-Leaf : (t : Term) (leaf : Leaf) → t ≡ term.Leaf leaf → (y x : Sight) → key_order t y x ≡ base.key_order leaf.base (y leaf.place) (x leaf.place)
+keys-Leaf t leaf is y x = ap (λ u. key_order u y x) is ∙ key_order-Leaf leaf y x
+
+pub keys-Pareto : (t p q : Term) → t ≡ Pareto p q → (y x : Sight) → key_order t y x ≡ ordering_then (key_order p y x) (key_order q y x)
+keys-Pareto t p q is y x = ap (λ u. key_order u y x) is ∙ key_order-Pareto p q y x
+
+pub keys-Prior : (t p q : Term) → t ≡ Prior p q → (y x : Sight) → key_order t y x ≡ ordering_then (key_order p y x) (key_order q y x)
+keys-Prior t p q is y x = ap (λ u. key_order u y x) is ∙ key_order-Prior p q y x
+
+pub ruleset standings = (standing-Leaf, standing-Pareto, standing-Prior, same-Leaf, same-Pareto, same-Prior, keys-Leaf, keys-Pareto, keys-Prior, width-Leaf, width-Pareto, width-Prior)

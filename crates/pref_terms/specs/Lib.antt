@@ -1,0 +1,9 @@
+pub mod BoundLaws
+pub mod Equations
+pub mod Fits
+pub mod Induction
+pub mod KeyLists
+pub mod Ranks
+pub mod Standing
+pub mod TermLaws
+pub mod Terms

@@ -1,0 +1,9 @@
+//! Terms of base preferences, and which of two combinations of rows is better by them (Kießling, VLDB 2002).
+#![tactic(auto)]
+
+mod bound;
+mod ranking;
+mod term;
+
+pub use bound::BoundTerm;
+pub use term::{Leaf, Term};
