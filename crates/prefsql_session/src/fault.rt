@@ -4,14 +4,14 @@ ghost use Rattle.std.specs.String.{string_bytes};
 use prefsql_values::{Memory, Text};
 use std::alloc::{AllocError, Global};
 
-/// Where a script has a fault, and which.
+/// A fault of a script: the number of its code, and how many bytes stand before it.
 #[derive(Clone, Copy, Debug, PartialEq, Eq)]
 pub(crate) struct Spot {
     pub(crate) code: u16,
     pub(crate) at: u32,
 }
 
-/// Where a table file has a fault, and which.
+/// A fault of a table file: the number of its code, its record and its field, both from 1. Record 0 field 0 is the file.
 #[derive(Clone, Copy, Debug, PartialEq, Eq)]
 pub(crate) struct TableSpot {
     pub(crate) code: u16,
@@ -19,20 +19,25 @@ pub(crate) struct TableSpot {
     pub(crate) at_field: u32,
 }
 
-/// The first fault of a run.
+/// The first fault of a run: of the table with this name, or of the script.
 #[derive(Debug, Drop)]
 pub(crate) enum Fault {
     Table(Text, TableSpot),
     Script(Spot),
 }
 
-/// Why a run has no text to write.
+/// Why a run has nothing to answer.
 #[derive(Debug, Drop)]
 pub(crate) enum Stop {
+    /// The words are not accepted.
     Usage,
+    /// The run has a first fault.
     Refused(Fault),
+    /// The script could not be read.
     ReadFault,
+    /// A file could not be loaded.
     ShelfFault,
+    /// Want of memory.
     Memory,
 }
 
@@ -46,6 +51,6 @@ impl From<Memory> for Stop {
     }
 }
 
-/// The line that every refusal of the words gets.
+/// The line for words that are not accepted.
 pub(crate) const USAGE: &str =
     "usage: prefsql COMMAND [--stats] [NAME=PATH ...] or prefsql bench N\n";

@@ -17,7 +17,7 @@ use std::alloc::Global;
 // The greatest number of bytes of a table file.
 const TABLE_LIMIT: usize = 8_388_608;
 
-// A script of more bytes is not simple.
+// A script of more bytes is not simple, and is read no further.
 const SCRIPT_LIMIT: usize = 1_048_576;
 
 // Loads the file of a table word, and reads it as a table.

@@ -79,8 +79,10 @@ fn refuse_words<E: Sink>(err: &mut E) -> Status
     put(err, USAGE.as_bytes(), Status::Usage)
 }
 
-/// Runs the program over these words. What the words, the files and the script come to is the run's course, and what
-/// the run writes and how it ends follow from that, want of memory and the faults of the four outer objects.
+/// Runs the program over these words, which are those after its name. What the words, the files and the script come to
+/// is the run's course, and what the run writes and how it ends follow from that, want of memory and the faults of the
+/// four outer objects. So far the words are `answer` and one `NAME=PATH`, and the file and the script are simple ones.
+/// No step is counted yet.
 pub fn run<S: Source, O: Sink, E: Sink, H: Shelf, L: Ledger>(
     alloc: Global,
     words: &[Text],

@@ -52,7 +52,8 @@ fn first_choice(
     Ok(None)
 }
 
-/// The column of which a simple script prefers the lowest number.
+/// The position of the column of which a simple script prefers the lowest number, and nothing where the script is not
+/// simple. The only error is want of memory.
 pub(crate) fn chosen_column(
     alloc: Global,
     table: &str,

@@ -9,7 +9,7 @@ use prefsql_values::{List, Memory, Text, Value};
 use query_meaning::PlainRow;
 use std::alloc::Global;
 
-/// A table of numbers.
+/// A table of numbers: the names of its columns, and its rows.
 #[derive(Debug, Drop)]
 pub(crate) struct SimpleTable {
     pub(crate) names: List<Text>,
@@ -244,7 +244,7 @@ fn ends_a_line(bytes: &[u8]) -> bool
     !bytes.is_empty() && bytes[bytes.len() - 1] == b'\n'
 }
 
-/// Reads a table file, where it is simple.
+/// The table of a file, where it is simple. The only error is want of memory.
 pub(crate) fn simple_table(alloc: Global, bytes: &[u8]) -> Result<Option<SimpleTable>, Memory>
     ensures table { IfOk result (λ table. table ≡ simple_table bytes.now) }
     ensures rectangle { IfOk result (λ table. IfSome table IsRectangle) }

@@ -47,7 +47,7 @@ fn table_word(alloc: Global, word: &str) -> Result<Option<TableWord>, Memory>
     }))
 }
 
-/// Reads the words of a command line, where they are accepted.
+/// The table word of a command line, where its words are accepted. The only error is want of memory.
 pub(crate) fn accepted(alloc: Global, words: &[Text]) -> Result<Option<TableWord>, Memory>
     ensures { IfOk result (λ word. word ≡ accepted_words words.now) }
 {
