@@ -1,5 +1,5 @@
 -- The rows of an answer have an arrangement, and it is the only one.
-use Rattle.std.proofs.Common.{◌≡◌, ℕ, zero, suc, ◌+◌, ◌<◌, ◌≤◌, ◌⊎◌, ⊎_elim, inl, inr, Bool, true, false, cond, List, [], ◌∷◌, length, get_or, ◌≢◌, AllPairs, Contains, refl, sym, ap, subst, ◌∙◌, arith}
+use Rattle.std.proofs.Common.{◌≡◌, ℕ, zero, suc, ◌+◌, ◌<◌, Bool, true, false, cond, List, [], ◌∷◌, length, get_or, ◌≢◌, AllPairs, sym, ap, subst, ◌∙◌, arith}
 use Rattle.std.specs.List.Sorted.{IsSorted, IsPermutation}
 use Rattle.std.specs.Ordering.{is_lt, ordering_reverse}
 use Rattle.std.specs.declared.cmp.Ordering.{Ordering}
@@ -8,7 +8,7 @@ use Rattle.std.proofs.lemmas.List.Sorted.{Contains-permutation, IsPermutation-re
 use Rattle.std.proofs.lemmas.Map.Made.{AllPairs-from_IsDistinct, IsDistinct-from_AllPairs}
 use Rattle.indexmap.proofs.MapLemmas.{distinct_permutation}
 use Rattle.prefsql_values.proofs.ValueEq.{equivalence_from_Decides}
-use Rattle.prefsql_tables.specs.Arranged.{HasEachOnce, IsArranged}
+use Rattle.prefsql_tables.specs.Arranged.{IsArranged}
 use Rattle.prefsql_tables.specs.Arrangement.{placed, in_order, arranged, HasOneArrangement}
 use Rattle.prefsql_tables.specs.Distinct.{is_same_row, each_once}
 use Rattle.prefsql_tables.specs.RowOrder.{row_order}
@@ -90,8 +90,8 @@ arranged_is true keys given =
     record {
       kept = record {
         members = λ row. (
-            (λ c. Contains-permutation (each_once given) (in_order keys (each_once given)) row moved ((once.members row).0 c)),
-            (λ c. (once.members row).1 (Contains-permutation (in_order keys (each_once given)) (each_once given) row (IsPermutation-sym (each_once given) (in_order keys (each_once given)) moved) c)),
+          (λ c. Contains-permutation (each_once given) (in_order keys (each_once given)) row moved ((once.members row).0 c)),
+          (λ c. (once.members row).1 (Contains-permutation (in_order keys (each_once given)) (each_once given) row (IsPermutation-sym (each_once given) (in_order keys (each_once given)) moved) c)),
         );
         differ = still_differ (each_once given) (in_order keys (each_once given)) moved once.differ;
       };

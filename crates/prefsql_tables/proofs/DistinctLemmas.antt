@@ -1,5 +1,5 @@
 -- Rows without repetition.
-use Rattle.std.proofs.Common.{◌≡◌, ◌≢◌, ℕ, ◌<◌, ⊎_elim, Bool, true, false, not, Decides, List, [], ◌∷◌, length, get_or, All, AllPairs, Contains, sym, ap, ◌∙◌, subst, arith}
+use Rattle.std.proofs.Common.{◌≡◌, ◌≢◌, ⊎_elim, Bool, true, false, not, Decides, List, [], ◌∷◌, get_or, All, AllPairs, Contains, ap, subst, arith}
 use Rattle.std.specs.Cmp.Lexicographic.{pointwise_decides}
 use Rattle.std.specs.List.{filter}
 use Rattle.std.proofs.lemmas.List.Elements.{filter_passes}
@@ -9,7 +9,7 @@ use Rattle.prefsql_values.proofs.ValueEq.{value_eq-Decides}
 use Rattle.prefsql_tables.specs.Arranged.{HasEachOnce}
 use Rattle.prefsql_tables.specs.Distinct.{is_same_row, each_once}
 use Rattle.prefsql_tables.specs.declared.table.AnswerRow.{AnswerRow}
-use Rattle.prefsql_tables.proofs.MemberLemmas.{at_head, in_tail, head_or_tail, none_in, Contains-filter, Contains-from_filter}
+use Rattle.prefsql_tables.proofs.MemberLemmas.{at_head, in_tail, head_or_tail, Contains-filter, Contains-from_filter}
 
 -- rows have the same values exactly where they are equal
 pub is_same_row-Decides : (a b : AnswerRow) → Decides (is_same_row a b) (a ≡ b)

@@ -1,6 +1,6 @@
 -- The name and the columns of the tests' table are valid.
-use Rattle.std.proofs.Common.{◌≡◌, ℕ, zero, suc, ◌<◌, true, false, List, [], ◌∷◌, length, get_or, All, sym, ap, ◌∙◌, arith, codes, lit≤}
-use Rattle.std.specs.Str.{chars, bytes_eq}
+use Rattle.std.proofs.Common.{zero, suc, true, false, List, [], ◌∷◌, All, arith, codes, lit≤}
+use Rattle.std.specs.Str.{chars}
 use Rattle.std.proofs.lemmas.Bool.{false≢true}
 use Rattle.std.proofs.lemmas.Slice.Eq.{bytes_eq-Decides}
 use Rattle.prefsql_values.specs.declared.value.Domain.TheVariants.{Integer, Chars}

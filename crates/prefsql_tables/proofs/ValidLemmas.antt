@@ -6,7 +6,9 @@ use Rattle.std.proofs.lemmas.Bool.{cases_lt}
 use Rattle.prefsql_values.specs.declared.value.Value.{Value}
 use Rattle.prefsql_tables.specs.declared.schema.Column.{Column}
 use Rattle.prefsql_tables.specs.declared.table.AnswerRow.{AnswerRow}
+use Rattle.prefsql_values.specs.declared.value.Value.TheVariants.{Null}
 use Rattle.prefsql_tables.specs.Names.{table_names}
+use Rattle.prefsql_tables.specs.Table.{no_table, no_row, columns_of, rows_of, cell_at, HasCell}
 use Rattle.prefsql_tables.specs.TableData.{TableData, NamedTable}
 use Rattle.prefsql_tables.specs.Valid.{IsCell, IsRow, IsName, IsTable, IsTableSet, AllDiffer}
 
@@ -27,6 +29,12 @@ cell_valid (column ∷ columns) (value ∷ values) (suc k) c v valid small = cel
 -- a row of a table has one cell for each column
 pub row_width : (table : TableData) (k : ℕ) (d : AnswerRow) → IsTable table → k < length table.rows → length (get_or table.rows k d).cells ≡ length table.columns
 row_width table k d valid small = length-IsRow table.columns (get_or table.rows k d).cells (valid.rows k d small)
+
+-- each cell of a set is one that its column may hold
+pub cell_at_valid : (tables : List NamedTable) (t row column : ℕ) (c : Column) → IsTableSet tables → HasCell tables t row column → IsCell (get_or (columns_of tables t) column c) (cell_at tables t row column)
+cell_at_valid tables t row column c valid there =
+    let table = valid.all_valid t no_table there.table in
+    cell_valid (columns_of tables t) (get_or (rows_of tables t) row no_row).cells column c Null (table.rows row no_row there.row_in) there.column_in
 
 -- a row and one more column with its value
 pub IsRow-push : (columns : List Column) (values : List Value) (column : Column) (value : Value) → IsRow columns values → IsCell column value → IsRow (columns ++ column ∷ []) (values ++ value ∷ [])

@@ -1,5 +1,5 @@
 -- The rows of an answer in their order, and without repetition where DISTINCT asks for it (ISO/IEC 9075:1992, select list).
-use Rattle.std.specs.Prelude.{◌≡◌, ◌≢◌, ◌↔◌, List, Bool, true, false, AllPairs, Contains}
+use Rattle.std.specs.Prelude.{◌≢◌, ◌↔◌, List, Bool, true, false, AllPairs, Contains}
 use Rattle.std.specs.List.Sorted.{IsSorted, IsPermutation}
 use Rattle.prefsql_tables.specs.RowOrder.{row_order}
 use Rattle.prefsql_tables.specs.declared.place.SortKey.{SortKey}
