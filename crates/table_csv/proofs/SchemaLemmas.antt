@@ -29,7 +29,7 @@ name_bytes_ascii [] all = IsAscii-nil
 name_bytes_ascii (b ∷ bytes) all =
     IsAscii-cons b bytes (name_byte_ascii b (and_left (is_name_byte b) (list_all is_name_byte bytes) all)) (name_bytes_ascii bytes (and_right (is_name_byte b) (list_all is_name_byte bytes) all))
 
-name_valid : (name : List ℕ) → is_name name ≡ true → IsName (str_to_ascii_uppercase name)
+pub name_valid : (name : List ℕ) → is_name name ≡ true → IsName (str_to_ascii_uppercase name)
 name_valid [] is = absurd (cc)
 name_valid (first ∷ rest) is =
     let front = and_left (is_ascii_alphabetic first && nat_lt (length rest) 64) (list_all is_name_byte rest) is in

@@ -27,7 +27,7 @@ pub(crate) fn read_cell(
         (_, true) if column.nullable => Ok(Value::Null),
         (Domain::Integer, true) => Err(bad(EMPTY_NUMBER, at_record, at_field)),
         (Domain::Integer, false) => match number_of(text) {
-            Ok(n) => Ok(Value::Num(i128::from(n))),
+            Ok(n) => Ok(Value::Num(n)),
             Err(code) => Err(bad(code, at_record, at_field)),
         },
         (Domain::Chars, _) => Ok(Value::Str(Text::of(alloc, text)?)),
