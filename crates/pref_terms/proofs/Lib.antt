@@ -1,4 +1,5 @@
 pub mod GraphPlaces
 pub mod Judged
 pub mod KeyReads
+pub mod PartReads
 pub mod Standings

@@ -3,6 +3,7 @@ pub mod Equations
 pub mod Fits
 pub mod Induction
 pub mod KeyLists
+pub mod Parts
 pub mod Ranks
 pub mod Standing
 pub mod TermLaws

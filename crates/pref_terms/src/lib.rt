@@ -2,8 +2,10 @@
 #![tactic(auto)]
 
 mod bound;
+mod parts;
 mod ranking;
 mod term;
 
 pub use bound::BoundTerm;
+pub use parts::{is_closed_leaf, restrict};
 pub use term::{Leaf, Term};

@@ -1,8 +1,9 @@
-ghost use Rattle.std.specs.Prelude.{◌≡◌, ◌<◌, ◌≤◌, length};
+ghost use Rattle.std.specs.Prelude.{◌≡◌, IfOk};
 
 use base_prefs::BasePref;
 use prefsql_tables::ColumnPlace;
-use prefsql_values::Boxed;
+use prefsql_values::{Boxed, Memory};
+use std::alloc::Global;
 
 /// A base preference on a column.
 #[derive(Debug, Drop)]
@@ -27,4 +28,37 @@ pub enum Term {
     Pareto(Boxed<Term>, Boxed<Term>),
     /// The first part counts more.
     Prior(Boxed<Term>, Boxed<Term>),
+}
+
+impl Leaf {
+    /// An equal leaf, or want of memory.
+    pub(crate) fn copy(&self, alloc: Global) -> Result<Leaf, Memory>
+        ensures { IfOk result (λ leaf. leaf ≡ self.now) }
+    {
+        Ok(Leaf {
+            number: self.number,
+            place: self.place,
+            base: self.base.copy(alloc)?,
+            trivial: self.trivial,
+        })
+    }
+}
+
+impl Term {
+    /// An equal term, or want of memory.
+    pub fn copy(&self, alloc: Global) -> Result<Term, Memory>
+        ensures { IfOk result (λ term. term ≡ self.now) }
+    {
+        Ok(match self {
+            Term::Leaf(leaf) => Term::Leaf(leaf.copy(alloc)?),
+            Term::Pareto(first, second) => Term::Pareto(
+                Boxed::new(alloc, first.get().copy(alloc)?)?,
+                Boxed::new(alloc, second.get().copy(alloc)?)?,
+            ),
+            Term::Prior(first, second) => Term::Prior(
+                Boxed::new(alloc, first.get().copy(alloc)?)?,
+                Boxed::new(alloc, second.get().copy(alloc)?)?,
+            ),
+        })
+    }
 }
