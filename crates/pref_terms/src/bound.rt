@@ -180,12 +180,14 @@ impl BoundTerm<'_> {
     {
         match term {
             Term::Leaf(leaf) => self.leaf_keys(leaf, a, b),
-            Term::Pareto(first, second) => self
-                .term_keys(first.get(), a, b)
-                .then(self.term_keys(second.get(), a, b)),
-            Term::Prior(first, second) => self
-                .term_keys(first.get(), a, b)
-                .then(self.term_keys(second.get(), a, b)),
+            Term::Pareto(first, second) => {
+                let by_first = self.term_keys(first.get(), a, b);
+                by_first.then(self.term_keys(second.get(), a, b))
+            }
+            Term::Prior(first, second) => {
+                let leading = self.term_keys(first.get(), a, b);
+                leading.then(self.term_keys(second.get(), a, b))
+            }
         }
     }
 }

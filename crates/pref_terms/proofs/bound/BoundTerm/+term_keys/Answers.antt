@@ -9,8 +9,8 @@ leaf_keys-requires-clause-a_fits t c = LeavesFit-Leaf c.args.self.now.tables.now
 pub leaf_keys-requires-clause-b_fits : goal.leaf_keys-requires-clause-b_fits
 leaf_keys-requires-clause-b_fits t c = LeavesFit-Leaf c.args.self.now.tables.now c.args.self.now.from.now c.args.self.now.first c.args.b.now.rows c.args.term.now c.in-Leaf.leaf c.in-Leaf.is c.requires.b_fits
 
-pub term_keys-requires : goal.term_keys-requires
-term_keys-requires t c = (
+pub term_keys-by_first-requires : goal.term_keys-by_first-requires
+term_keys-by_first-requires t c = (
   search (rules, the_lemmas),
   (
     rw c.get.ensures (LeavesFit-Pareto_first c.args.self.now.tables.now c.args.self.now.from.now c.args.self.now.first c.args.a.now.rows c.args.term.now c.in-Pareto.first c.in-Pareto.second c.in-Pareto.is c.requires.a_fits),
@@ -18,8 +18,8 @@ term_keys-requires t c = (
   ),
 )
 
-pub term_keys-requires-in-Pareto : goal.term_keys-requires-in-Pareto
-term_keys-requires-in-Pareto t c = (
+pub term_keys-requires : goal.term_keys-requires
+term_keys-requires t c = (
   search (rules, the_lemmas),
   (
     rw c.get-in-Pareto.ensures (LeavesFit-Pareto_second c.args.self.now.tables.now c.args.self.now.from.now c.args.self.now.first c.args.a.now.rows c.args.term.now c.in-Pareto.first c.in-Pareto.second c.in-Pareto.is c.requires.a_fits),
@@ -27,8 +27,8 @@ term_keys-requires-in-Pareto t c = (
   ),
 )
 
-pub term_keys-requires-in-Prior : goal.term_keys-requires-in-Prior
-term_keys-requires-in-Prior t c = (
+pub term_keys-leading-requires : goal.term_keys-leading-requires
+term_keys-leading-requires t c = (
   search (rules, the_lemmas),
   (
     rw c.get-in-Prior.ensures (LeavesFit-Prior_first c.args.self.now.tables.now c.args.self.now.from.now c.args.self.now.first c.args.a.now.rows c.args.term.now c.in-Prior.first c.in-Prior.second c.in-Prior.is c.requires.a_fits),
@@ -36,8 +36,8 @@ term_keys-requires-in-Prior t c = (
   ),
 )
 
-pub term_keys-requires-in-Prior-2 : goal.term_keys-requires-in-Prior-2
-term_keys-requires-in-Prior-2 t c = (
+pub term_keys-requires-in-Prior : goal.term_keys-requires-in-Prior
+term_keys-requires-in-Prior t c = (
   search (rules, the_lemmas),
   (
     rw c.get-in-Prior-2.ensures (LeavesFit-Prior_second c.args.self.now.tables.now c.args.self.now.from.now c.args.self.now.first c.args.a.now.rows c.args.term.now c.in-Prior.first c.in-Prior.second c.in-Prior.is c.requires.a_fits),
