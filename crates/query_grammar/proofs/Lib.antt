@@ -1,0 +1,6 @@
+pub mod Predictive
+pub mod Written
+pub mod Counted
+pub mod Depth
+pub mod Accepted
+pub mod Faults

@@ -1,0 +1,16 @@
+pub mod Classes
+pub mod Forms
+pub mod Columns
+pub mod Scalars
+pub mod Sets
+pub mod Items
+pub mod Trees
+pub mod ReadConditions
+pub mod ReadPreferences
+pub mod ReadStatements
+pub mod Conditions
+pub mod Preferences
+pub mod Statements
+pub mod Place
+pub mod Scripts
+pub mod Outcome

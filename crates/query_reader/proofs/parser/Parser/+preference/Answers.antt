@@ -1,0 +1,25 @@
+use Rattle.query_grammar.specs.Forms.{preference_rule}
+use Rattle.query_grammar.specs.ReadPreferences.{primary, primaries, pareto, cascade}
+use Rattle.query_reader.proofs.Turns.{separated_more, separated_less, nested_none, nested_some}
+use Rattle.query_grammar.proofs.Predictive.{predictive-primary, predictive-pareto}
+use Rattle.query_reader.proofs.parser.Parser.+preference.Goals as goal
+
+pub primaries-more-smaller : goal.primaries-more-smaller
+primaries-more-smaller t c = separated_less c.args.self.depth _ primary predictive-primary _ _ _ _ c.more-test.ensures.1 c.in_ok-primary-2.ensures
+
+pub primaries-more-preserved : goal.primaries-more-preserved
+unfolding primaries
+primaries-more-preserved t c = separated_more c.args.self.depth _ primary predictive-primary c.more.tokens c.eat_word.new.self _ c.more.found _ _ c.more.invariant c.more-test.ensures c.in_ok-primary-2.ensures c.in_ok-push-2.ensures.ok
+
+pub cascade-more-smaller : goal.cascade-more-smaller
+cascade-more-smaller t c = separated_less c.args.self.depth _ pareto predictive-pareto _ _ _ _ c.more-test.ensures.1 c.in_ok-pareto-2.ensures
+
+pub cascade-more-preserved : goal.cascade-more-preserved
+unfolding cascade
+cascade-more-preserved t c = separated_more c.args.self.depth _ pareto predictive-pareto c.more.tokens c.eat_word.new.self _ c.more.found _ _ c.more.invariant c.more-test.ensures c.in_ok-pareto-2.ensures c.in_ok-push-2.ensures.ok
+
+pub nested_preference-returns-then-self-eq0 : goal.nested_preference-returns-then-self-eq0
+nested_preference-returns-then-self-eq0 t c = nested_none c.args.self.depth c.if-self-eq0.true preference_rule c.args.tokens.now
+
+pub nested_preference-returns : goal.nested_preference-returns
+nested_preference-returns t c = rw (nested_some c.args.self.depth c.if-self-eq0.false preference_rule c.args.tokens.now) c.preference.ensures

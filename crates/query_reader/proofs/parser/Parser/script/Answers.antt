@@ -1,0 +1,22 @@
+use Rattle.std.proofs.Common.{sym, arith}
+use Rattle.std.proofs.lemmas.Result.{err_from_is_err_and}
+use Rattle.query_reader.proofs.Scripts.{script_stop, script_err, script_last, script_more, script_full}
+use Rattle.query_reader.proofs.parser.Parser.script.Goals as goal
+
+pub returns-then-not-at_word : goal.returns-then-not-at_word
+returns-then-not-at_word c = script_stop c.args.self.depth c.more._turn c.more.tokens c.more.found c.more.invariant (omega arith) (sym c.if-not-at_word.ensures)
+
+pub returns-in_err-statement : goal.returns-in_err-statement
+returns-in_err-statement c =
+    let p = err_from_is_err_and c.from_residual.result c.from_residual.ensures.1 in
+    rw (p.1, p.2) (script_err c.args.self.depth c.more._turn c.more.tokens c.more.found c.more.invariant _ _ (omega arith) (sym c.if-not-at_word.ensures) c.in_err-statement.ensures)
+
+pub returns-then-not-eat_symbol : goal.returns-then-not-eat_symbol
+returns-then-not-eat_symbol c =
+    rw c.if-not-eat_symbol.ensures.1 (script_last c.args.self.depth c.more._turn c.more.tokens c.more.found c.more.invariant _ c.in_ok-statement.field-0 _ (omega arith) (sym c.if-not-at_word.ensures) c.in_ok-statement.ensures c.in_ok-push.ensures.ok c.if-not-eat_symbol.ensures.0)
+
+pub more-preserved : goal.more-preserved
+more-preserved c = script_more c.args.self.depth c.more._turn c.more.tokens c.more.found c.more.invariant c.statement.new.tokens _ c.in_ok-statement.field-0 _ (omega arith) (sym c.if-not-at_word.ensures) c.in_ok-statement.ensures c.in_ok-push.ensures.ok c.if-not-eat_symbol.ensures
+
+pub returns : goal.returns
+returns c = script_full c.args.self.depth c.more._turn c.more.tokens c.more.found c.more.invariant (omega arith)

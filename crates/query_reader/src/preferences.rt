@@ -1,0 +1,383 @@
+//! Preferences.
+
+ghost use Rattle.std.specs.Prelude.{◌≡◌, IfOk, Ok};
+ghost use Rattle.grammar_forms.specs.Reading.{with_value};
+ghost use Rattle.query_grammar.specs.Forms as forms;
+ghost use Rattle.query_grammar.specs.ReadPreferences as preferences;
+ghost use Rattle.query_grammar.specs.Sets as sets;
+ghost use Rattle.query_grammar.specs.Outcome.{nested, outcome};
+ghost use Rattle.query_reader.specs.Reads.{Reads};
+
+use crate::cursor::{Cursor, Stop};
+use crate::parser::Parser;
+use prefsql_lexer::{Keyword, Symbol};
+use prefsql_values::{List, Memory};
+use query_tree::{BaseForm, BaseTree, EdgeTree, LiteralTree, PrefTree, SetTree};
+
+impl Parser {
+    /// Whether TRIVIAL comes next, or else perhaps REGULAR.
+    #[tactic(auto, unfolding(query_grammar::specs::Sets::mark), using(grammar_forms::proofs::Sets::begins_more))]
+    fn mark(self, tokens: &mut Cursor<'_>) -> bool
+        ensures { outcome self.depth sets.mark tokens.old ≡ Ok (result, tokens.new) }
+    {
+        if tokens.eat_word(Keyword::Trivial) {
+            return true;
+        }
+        tokens.eat_word(Keyword::Regular);
+        false
+    }
+
+    #[tactic(auto, unfolding(query_grammar::specs::Sets::edge))]
+    fn edge(self, tokens: &mut Cursor<'_>) -> Result<EdgeTree, Stop>
+        ensures { Reads (outcome self.depth sets.edge tokens.old) result tokens.new }
+    {
+        let upper = self.literal(tokens)?;
+        tokens.symbol(Symbol::Greater)?;
+        let lower = self.literal(tokens)?;
+        Ok(EdgeTree { upper, lower })
+    }
+
+    #[tactic(auto, unfolding(query_grammar::specs::Sets::edges))]
+    fn edges(self, tokens: &mut Cursor<'_>) -> Result<List<EdgeTree>, Stop>
+        ensures { Reads (outcome self.depth sets.edges tokens.old) result tokens.new }
+    {
+        let mut found = List::new(self.alloc);
+        found.push(self.edge(tokens)?)?;
+        'more: while tokens.eat_symbol(Symbol::Comma) {
+            found.push(self.edge(tokens)?)?;
+        }
+        Ok(found)
+    }
+
+    fn single(self, literal: LiteralTree) -> Result<SetTree, Memory>
+        ensures { IfOk result (λ set. set ≡ sets.single literal) }
+    {
+        let mut literals = List::new(self.alloc);
+        literals.push(literal)?;
+        Ok(SetTree { literals })
+    }
+
+    #[tactic(auto, unfolding(query_grammar::specs::ReadPreferences::good_set))]
+    fn good_set(self, tokens: &mut Cursor<'_>) -> Result<SetTree, Stop>
+        ensures { Reads (outcome self.depth preferences.good_set tokens.old) result tokens.new }
+    {
+        if tokens.eat_symbol(Symbol::Equal) {
+            let literal = self.literal(tokens)?;
+            return Ok(self.single(literal)?);
+        }
+        tokens.word(Keyword::In)?;
+        self.set(tokens)
+    }
+
+    #[tactic(auto, unfolding(query_grammar::specs::ReadPreferences::bad_set))]
+    fn bad_set(self, tokens: &mut Cursor<'_>) -> Result<SetTree, Stop>
+        ensures { Reads (outcome self.depth preferences.bad_set tokens.old) result tokens.new }
+    {
+        if tokens.eat_symbol(Symbol::NotEqual) {
+            let literal = self.literal(tokens)?;
+            return Ok(self.single(literal)?);
+        }
+        tokens.word(Keyword::Not)?;
+        tokens.word(Keyword::In)?;
+        self.set(tokens)
+    }
+
+    #[tactic(auto, unfolding(query_grammar::specs::ReadPreferences::otherwise, query_grammar::specs::ReadPreferences::good_set), using(grammar_forms::proofs::Sets::begins_more, crate::proofs::Values::value_twice))]
+    fn otherwise(self, tokens: &mut Cursor<'_>, first: SetTree) -> Result<BaseForm, Stop>
+        ensures { Reads (with_value (λ h. h first) (outcome self.depth preferences.otherwise tokens.old)) result tokens.new }
+    {
+        tokens.word(Keyword::Else)?;
+        let column = self.column(tokens)?;
+        if tokens.at_symbol(Symbol::Equal) || tokens.at_word(Keyword::In) {
+            let second = self.good_set(tokens)?;
+            Ok(BaseForm::PosPos(first, column, second))
+        } else {
+            let second = self.bad_set(tokens)?;
+            Ok(BaseForm::PosNeg(first, column, second))
+        }
+    }
+
+    #[tactic(auto, unfolding(query_grammar::specs::ReadPreferences::good_base, query_grammar::specs::ReadPreferences::otherwise), using(crate::proofs::Values::value_twice))]
+    fn good(self, tokens: &mut Cursor<'_>) -> Result<BaseForm, Stop>
+        ensures { Reads (outcome self.depth preferences.good_base tokens.old) result tokens.new }
+    {
+        let set = self.good_set(tokens)?;
+        if tokens.at_word(Keyword::Else) {
+            return self.otherwise(tokens, set);
+        }
+        Ok(BaseForm::Pos(set))
+    }
+
+    #[tactic(auto, unfolding(query_grammar::specs::ReadPreferences::between_base))]
+    fn between_literals(self, tokens: &mut Cursor<'_>) -> Result<BaseForm, Stop>
+        ensures { Reads (outcome self.depth preferences.between_base tokens.old) result tokens.new }
+    {
+        tokens.word(Keyword::Between)?;
+        let low = self.literal(tokens)?;
+        tokens.word(Keyword::And)?;
+        let high = self.literal(tokens)?;
+        Ok(BaseForm::Between(low, high))
+    }
+
+    #[tactic(auto, unfolding(query_grammar::specs::Sets::sets))]
+    fn sets(self, tokens: &mut Cursor<'_>) -> Result<List<SetTree>, Stop>
+        ensures { Reads (outcome self.depth sets.sets tokens.old) result tokens.new }
+    {
+        let mut found = List::new(self.alloc);
+        found.push(self.set(tokens)?)?;
+        'more: while tokens.eat_symbol(Symbol::Comma) {
+            found.push(self.set(tokens)?)?;
+        }
+        Ok(found)
+    }
+
+    #[tactic(auto, unfolding(query_grammar::specs::ReadPreferences::others))]
+    fn others(self, tokens: &mut Cursor<'_>) -> Result<List<SetTree>, Stop>
+        ensures { Reads (outcome self.depth preferences.others tokens.old) result tokens.new }
+    {
+        tokens.word(Keyword::Others)?;
+        if tokens.eat_symbol(Symbol::Comma) {
+            return self.sets(tokens);
+        }
+        Ok(List::new(self.alloc))
+    }
+
+    /// The sets up to OTHERS, and those after it. A comma needs a second look: OTHERS or a set may follow.
+    #[tactic(auto, unfolding(query_grammar::specs::ReadPreferences::sets_and_others), using(crate::proofs::Values::value_twice))]
+    fn sets_and_others(
+        self,
+        tokens: &mut Cursor<'_>,
+    ) -> Result<(List<SetTree>, Option<List<SetTree>>), Stop>
+        ensures { Reads (outcome self.depth preferences.sets_and_others tokens.old) result tokens.new }
+    {
+        let mut found = List::new(self.alloc);
+        found.push(self.set(tokens)?)?;
+        'more: while tokens.eat_symbol(Symbol::Comma) {
+            if tokens.at_word(Keyword::Others) {
+                let after = self.others(tokens)?;
+                return Ok((found, Some(after)));
+            }
+            found.push(self.set(tokens)?)?;
+        }
+        Ok((found, None))
+    }
+
+    fn or_none(self, sets: Option<List<SetTree>>) -> List<SetTree>
+        ensures { result ≡ forms.or_none sets }
+    {
+        match sets {
+            None => List::new(self.alloc),
+            Some(sets) => sets,
+        }
+    }
+
+    #[tactic(auto, unfolding(query_grammar::specs::ReadPreferences::layers_form))]
+    fn layers(self, tokens: &mut Cursor<'_>) -> Result<BaseForm, Stop>
+        ensures { Reads (outcome self.depth preferences.layers_form tokens.old) result tokens.new }
+    {
+        if tokens.eat_word(Keyword::Others) {
+            tokens.symbol(Symbol::Comma)?;
+            let after = self.sets(tokens)?;
+            return Ok(BaseForm::Layered(List::new(self.alloc), after));
+        }
+        let (before, after) = self.sets_and_others(tokens)?;
+        let after = self.or_none(after);
+        Ok(BaseForm::Layered(before, after))
+    }
+
+    #[tactic(auto, unfolding(query_grammar::specs::ReadPreferences::other_form, query_grammar::specs::ReadPreferences::good_base, query_grammar::specs::ReadPreferences::good_set, query_grammar::specs::ReadPreferences::bad_set, query_grammar::specs::ReadPreferences::between_base), using(grammar_forms::proofs::Sets::begins_more))]
+    fn other_form(self, tokens: &mut Cursor<'_>) -> Result<BaseForm, Stop>
+        ensures { Reads (outcome self.depth preferences.other_form tokens.old) result tokens.new }
+    {
+        if tokens.at_symbol(Symbol::Equal) || tokens.at_word(Keyword::In) {
+            return self.good(tokens);
+        }
+        if tokens.at_symbol(Symbol::NotEqual) || tokens.at_word(Keyword::Not) {
+            return Ok(BaseForm::Neg(self.bad_set(tokens)?));
+        }
+        if tokens.eat_word(Keyword::Around) {
+            return Ok(BaseForm::Around(self.literal(tokens)?));
+        }
+        if tokens.at_word(Keyword::Between) {
+            return self.between_literals(tokens);
+        }
+        tokens.word(Keyword::Layered)?;
+        tokens.symbol(Symbol::LeftParen)?;
+        let layers = self.layers(tokens)?;
+        tokens.symbol(Symbol::RightParen)?;
+        Ok(layers)
+    }
+
+    #[tactic(auto, unfolding(query_grammar::specs::ReadPreferences::graph_form))]
+    fn graph(self, tokens: &mut Cursor<'_>) -> Result<List<EdgeTree>, Stop>
+        ensures { Reads (outcome self.depth preferences.graph_form tokens.old) result tokens.new }
+    {
+        tokens.word(Keyword::Explicit)?;
+        tokens.symbol(Symbol::LeftParen)?;
+        let edges = self.edges(tokens)?;
+        tokens.symbol(Symbol::RightParen)?;
+        tokens.eat_word(Keyword::Trivial);
+        Ok(edges)
+    }
+
+    #[tactic(auto, unfolding(query_grammar::specs::ReadPreferences::column_base, query_grammar::specs::ReadPreferences::graph_form))]
+    fn column_base(self, tokens: &mut Cursor<'_>) -> Result<BaseTree, Stop>
+        ensures { Reads (outcome self.depth preferences.column_base tokens.old) result tokens.new }
+    {
+        let column = self.column(tokens)?;
+        let at = column.at;
+        if tokens.at_word(Keyword::Explicit) {
+            let edges = self.graph(tokens)?;
+            return Ok(BaseTree {
+                column,
+                form: BaseForm::Explicit(edges),
+                trivial: true,
+                at,
+            });
+        }
+        let form = self.other_form(tokens)?;
+        let trivial = self.mark(tokens);
+        Ok(BaseTree {
+            column,
+            form,
+            trivial,
+            at,
+        })
+    }
+
+    #[tactic(auto, unfolding(query_grammar::specs::ReadPreferences::lowest))]
+    fn lowest(self, tokens: &mut Cursor<'_>) -> Result<BaseTree, Stop>
+        ensures { Reads (outcome self.depth preferences.lowest tokens.old) result tokens.new }
+    {
+        let at = tokens.word_at(Keyword::Lowest)?;
+        let column = self.column_in_parens(tokens)?;
+        let trivial = self.mark(tokens);
+        Ok(BaseTree {
+            column,
+            form: BaseForm::Lowest,
+            trivial,
+            at,
+        })
+    }
+
+    #[tactic(auto, unfolding(query_grammar::specs::ReadPreferences::highest))]
+    fn highest(self, tokens: &mut Cursor<'_>) -> Result<BaseTree, Stop>
+        ensures { Reads (outcome self.depth preferences.highest tokens.old) result tokens.new }
+    {
+        let at = tokens.word_at(Keyword::Highest)?;
+        let column = self.column_in_parens(tokens)?;
+        let trivial = self.mark(tokens);
+        Ok(BaseTree {
+            column,
+            form: BaseForm::Highest,
+            trivial,
+            at,
+        })
+    }
+
+    #[tactic(auto, unfolding(query_grammar::specs::ReadPreferences::any_base, query_grammar::specs::ReadPreferences::lowest, query_grammar::specs::ReadPreferences::highest))]
+    fn base(self, tokens: &mut Cursor<'_>) -> Result<BaseTree, Stop>
+        ensures { Reads (outcome self.depth preferences.any_base tokens.old) result tokens.new }
+    {
+        if tokens.at_word(Keyword::Lowest) {
+            return self.lowest(tokens);
+        }
+        if tokens.at_word(Keyword::Highest) {
+            return self.highest(tokens);
+        }
+        self.column_base(tokens)
+    }
+
+    /// A preference in parentheses.
+    #[cycle(preference)]
+    fn nested_preference(self, tokens: &mut Cursor<'_>) -> Result<PrefTree, Stop>
+        ensures { Reads (nested self.depth forms.preference_rule tokens.old) result tokens.new }
+    {
+        if self.depth == 0 {
+            return Err(Stop::Fault);
+        }
+        let inner = Parser {
+            alloc: self.alloc,
+            depth: self.depth - 1,
+        };
+        inner.preference(tokens)
+    }
+
+    #[tactic(auto, unfolding(query_grammar::specs::ReadPreferences::primary))]
+    #[cycle(preference)]
+    fn primary(self, tokens: &mut Cursor<'_>) -> Result<PrefTree, Stop>
+        ensures { Reads (outcome self.depth preferences.primary tokens.old) result tokens.new }
+    {
+        if tokens.eat_symbol(Symbol::LeftParen) {
+            let inner = self.nested_preference(tokens)?;
+            tokens.symbol(Symbol::RightParen)?;
+            return Ok(inner);
+        }
+        Ok(PrefTree::Base(self.base(tokens)?))
+    }
+
+    #[tactic(auto, unfolding(query_grammar::specs::ReadPreferences::primaries))]
+    #[cycle(preference)]
+    fn primaries(self, tokens: &mut Cursor<'_>) -> Result<List<PrefTree>, Stop>
+        ensures { Reads (outcome self.depth preferences.primaries tokens.old) result tokens.new }
+    {
+        let mut found = List::new(self.alloc);
+        found.push(self.primary(tokens)?)?;
+        'more: while tokens.eat_word(Keyword::And) {
+            found.push(self.primary(tokens)?)?;
+        }
+        Ok(found)
+    }
+
+    #[tactic(auto, unfolding(query_grammar::specs::ReadPreferences::pareto))]
+    #[cycle(preference)]
+    fn pareto(self, tokens: &mut Cursor<'_>) -> Result<PrefTree, Stop>
+        ensures { Reads (outcome self.depth preferences.pareto tokens.old) result tokens.new }
+    {
+        Ok(equal_parts(self.primaries(tokens)?))
+    }
+
+    #[tactic(auto, unfolding(query_grammar::specs::ReadPreferences::cascade))]
+    #[cycle(preference)]
+    fn cascade(self, tokens: &mut Cursor<'_>) -> Result<List<PrefTree>, Stop>
+        ensures { Reads (outcome self.depth preferences.cascade tokens.old) result tokens.new }
+    {
+        let mut found = List::new(self.alloc);
+        found.push(self.pareto(tokens)?)?;
+        'more: while tokens.eat_word(Keyword::Cascade) {
+            found.push(self.pareto(tokens)?)?;
+        }
+        Ok(found)
+    }
+
+    #[tactic(auto, unfolding(query_grammar::specs::ReadPreferences::preference))]
+    #[cycle(preference)]
+    pub(crate) fn preference(self, tokens: &mut Cursor<'_>) -> Result<PrefTree, Stop>
+        ensures { Reads (outcome self.depth preferences.preference tokens.old) result tokens.new }
+    {
+        Ok(ordered_parts(self.cascade(tokens)?))
+    }
+}
+
+/// A chain of one part is that part.
+fn equal_parts(parts: List<PrefTree>) -> PrefTree
+    ensures { result ≡ forms.chain PrefTree.Pareto parts }
+{
+    let mut parts = parts.into_vec();
+    if parts.len() == 1 {
+        parts.remove(0)
+    } else {
+        PrefTree::Pareto(List::of(parts))
+    }
+}
+
+fn ordered_parts(parts: List<PrefTree>) -> PrefTree
+    ensures { result ≡ forms.chain PrefTree.Prior parts }
+{
+    let mut parts = parts.into_vec();
+    if parts.len() == 1 {
+        parts.remove(0)
+    } else {
+        PrefTree::Prior(List::of(parts))
+    }
+}

@@ -1,0 +1,289 @@
+//! Statements and scripts.
+
+ghost use Rattle.std.specs.Prelude.{◌≡◌, Ok};
+ghost use Rattle.query_grammar.specs.Columns as columns;
+ghost use Rattle.query_grammar.specs.Items as items;
+ghost use Rattle.query_grammar.specs.ReadStatements as statements;
+ghost use Rattle.query_grammar.specs.Outcome.{outcome};
+ghost use Rattle.query_reader.specs.Reads.{Reads};
+
+use crate::cursor::{Cursor, Stop};
+use crate::parser::Parser;
+use prefsql_lexer::{Keyword, Symbol};
+use prefsql_values::{List, Text};
+use query_tree::{
+    CondTree, FromTree, ItemTree, NameTree, OrderName, OrderTree, PrefTree, QueryTree, ScalarTree,
+    SelectTree,
+};
+
+const MAX_STATEMENTS: usize = 64;
+
+impl Parser {
+    /// `[[AS] name]`
+    #[tactic(auto, unfolding(query_grammar::specs::Items::alias), using(grammar_forms::proofs::Sets::begins_more))]
+    fn alias(self, tokens: &mut Cursor<'_>) -> Result<Option<(Text, u32)>, Stop>
+        ensures { Reads (outcome self.depth items.alias tokens.old) result tokens.new }
+    {
+        if tokens.eat_word(Keyword::As) {
+            return Ok(Some(tokens.name()?));
+        }
+        if tokens.at_name() {
+            return Ok(Some(tokens.name()?));
+        }
+        Ok(None)
+    }
+
+    #[tactic(auto, unfolding(query_grammar::specs::Items::value, query_grammar::specs::Scalars::level, query_grammar::specs::Scalars::distance))]
+    fn item_value(self, tokens: &mut Cursor<'_>) -> Result<ScalarTree, Stop>
+        ensures { Reads (outcome self.depth items.value tokens.old) result tokens.new }
+    {
+        if tokens.at_word(Keyword::Level) {
+            return self.level(tokens);
+        }
+        if tokens.at_word(Keyword::Distance) {
+            return self.distance(tokens);
+        }
+        Ok(ScalarTree::Column(self.column(tokens)?))
+    }
+
+    #[tactic(auto, unfolding(query_grammar::specs::Items::item))]
+    fn item(self, tokens: &mut Cursor<'_>) -> Result<ItemTree, Stop>
+        ensures { Reads (outcome self.depth items.item tokens.old) result tokens.new }
+    {
+        let value = self.item_value(tokens)?;
+        let name = match self.alias(tokens)? {
+            None => None,
+            Some((text, _)) => Some(text),
+        };
+        Ok(ItemTree { value, name })
+    }
+
+    #[tactic(auto, unfolding(query_grammar::specs::Items::items))]
+    fn items(self, tokens: &mut Cursor<'_>) -> Result<List<ItemTree>, Stop>
+        ensures { Reads (outcome self.depth items.items tokens.old) result tokens.new }
+    {
+        let mut found = List::new(self.alloc);
+        found.push(self.item(tokens)?)?;
+        'more: while tokens.eat_symbol(Symbol::Comma) {
+            found.push(self.item(tokens)?)?;
+        }
+        Ok(found)
+    }
+
+    #[tactic(auto, unfolding(query_grammar::specs::Items::list))]
+    fn select_list(self, tokens: &mut Cursor<'_>) -> Result<SelectTree, Stop>
+        ensures { Reads (outcome self.depth items.list tokens.old) result tokens.new }
+    {
+        if tokens.eat_symbol(Symbol::Star) {
+            return Ok(SelectTree::All);
+        }
+        Ok(SelectTree::Items(self.items(tokens)?))
+    }
+
+    #[tactic(auto, unfolding(query_grammar::specs::Items::from))]
+    fn from_item(self, tokens: &mut Cursor<'_>) -> Result<FromTree, Stop>
+        ensures { Reads (outcome self.depth items.from tokens.old) result tokens.new }
+    {
+        let (table, at) = tokens.name()?;
+        match self.alias(tokens)? {
+            None => Ok(FromTree {
+                table,
+                name: None,
+                at,
+                name_at: at,
+            }),
+            Some((name, name_at)) => Ok(FromTree {
+                table,
+                name: Some(name),
+                at,
+                name_at,
+            }),
+        }
+    }
+
+    #[tactic(auto, unfolding(query_grammar::specs::Items::from_items))]
+    fn from_items(self, tokens: &mut Cursor<'_>) -> Result<List<FromTree>, Stop>
+        ensures { Reads (outcome self.depth items.from_items tokens.old) result tokens.new }
+    {
+        let mut found = List::new(self.alloc);
+        found.push(self.from_item(tokens)?)?;
+        'more: while tokens.eat_symbol(Symbol::Comma) {
+            found.push(self.from_item(tokens)?)?;
+        }
+        Ok(found)
+    }
+
+    /// Whether DESC comes next, or else perhaps ASC.
+    #[tactic(auto, unfolding(query_grammar::specs::Columns::direction), using(grammar_forms::proofs::Sets::begins_more))]
+    fn direction(self, tokens: &mut Cursor<'_>) -> bool
+        ensures { outcome self.depth columns.direction tokens.old ≡ Ok (result, tokens.new) }
+    {
+        if tokens.eat_word(Keyword::Asc) {
+            return false;
+        }
+        tokens.eat_word(Keyword::Desc)
+    }
+
+    #[tactic(auto, unfolding(query_grammar::specs::Columns::order))]
+    fn order_item(self, tokens: &mut Cursor<'_>) -> Result<OrderTree, Stop>
+        ensures { Reads (outcome self.depth columns.order tokens.old) result tokens.new }
+    {
+        if tokens.at_name() {
+            let (name, at) = tokens.name()?;
+            let descending = self.direction(tokens);
+            return Ok(OrderTree {
+                key: OrderName::Name(name),
+                descending,
+                at,
+            });
+        }
+        let (number, at) = tokens.number()?;
+        let descending = self.direction(tokens);
+        Ok(OrderTree {
+            key: OrderName::Position(number),
+            descending,
+            at,
+        })
+    }
+
+    #[tactic(auto, unfolding(query_grammar::specs::Columns::orders))]
+    fn order_items(self, tokens: &mut Cursor<'_>) -> Result<List<OrderTree>, Stop>
+        ensures { Reads (outcome self.depth columns.orders tokens.old) result tokens.new }
+    {
+        let mut found = List::new(self.alloc);
+        found.push(self.order_item(tokens)?)?;
+        'more: while tokens.eat_symbol(Symbol::Comma) {
+            found.push(self.order_item(tokens)?)?;
+        }
+        Ok(found)
+    }
+
+    #[tactic(auto, unfolding(query_grammar::specs::Columns::columns))]
+    fn columns(self, tokens: &mut Cursor<'_>) -> Result<List<NameTree>, Stop>
+        ensures { Reads (outcome self.depth columns.columns tokens.old) result tokens.new }
+    {
+        let mut found = List::new(self.alloc);
+        found.push(self.column(tokens)?)?;
+        'more: while tokens.eat_symbol(Symbol::Comma) {
+            found.push(self.column(tokens)?)?;
+        }
+        Ok(found)
+    }
+
+    #[tactic(auto, unfolding(query_grammar::specs::ReadStatements::filter))]
+    fn filter(self, tokens: &mut Cursor<'_>) -> Result<Option<CondTree>, Stop>
+        ensures { Reads (outcome self.depth statements.filter tokens.old) result tokens.new }
+    {
+        if tokens.eat_word(Keyword::Where) {
+            return Ok(Some(self.condition(tokens, false)?));
+        }
+        Ok(None)
+    }
+
+    #[tactic(auto, unfolding(query_grammar::specs::Items::groups))]
+    fn groups(self, tokens: &mut Cursor<'_>) -> Result<List<NameTree>, Stop>
+        ensures { Reads (outcome self.depth items.groups tokens.old) result tokens.new }
+    {
+        if tokens.eat_word(Keyword::Grouping) {
+            return self.columns(tokens);
+        }
+        Ok(List::new(self.alloc))
+    }
+
+    #[tactic(auto, unfolding(query_grammar::specs::ReadStatements::only))]
+    fn only(self, tokens: &mut Cursor<'_>) -> Result<Option<CondTree>, Stop>
+        ensures { Reads (outcome self.depth statements.only tokens.old) result tokens.new }
+    {
+        if tokens.eat_word(Keyword::But) {
+            tokens.word(Keyword::Only)?;
+            return Ok(Some(self.condition(tokens, true)?));
+        }
+        Ok(None)
+    }
+
+    #[tactic(auto, unfolding(query_grammar::specs::Items::ordering))]
+    fn ordering(self, tokens: &mut Cursor<'_>) -> Result<List<OrderTree>, Stop>
+        ensures { Reads (outcome self.depth items.ordering tokens.old) result tokens.new }
+    {
+        if tokens.eat_word(Keyword::Order) {
+            tokens.word(Keyword::By)?;
+            return self.order_items(tokens);
+        }
+        Ok(List::new(self.alloc))
+    }
+
+    #[tactic(auto, unfolding(query_grammar::specs::ReadStatements::prefer_form))]
+    fn prefer(
+        self,
+        tokens: &mut Cursor<'_>,
+    ) -> Result<(PrefTree, (List<NameTree>, Option<CondTree>)), Stop>
+        ensures { Reads (outcome self.depth statements.prefer_form tokens.old) result tokens.new }
+    {
+        tokens.word(Keyword::Preferring)?;
+        let preference = self.preference(tokens)?;
+        let groups = self.groups(tokens)?;
+        let only = self.only(tokens)?;
+        Ok((preference, (groups, only)))
+    }
+
+    #[tactic(auto, unfolding(query_grammar::specs::Items::distinctness))]
+    fn distinctness(self, tokens: &mut Cursor<'_>) -> bool
+        ensures { outcome self.depth items.distinctness tokens.old ≡ Ok (result, tokens.new) }
+    {
+        tokens.eat_word(Keyword::Distinct)
+    }
+
+    #[tactic(auto, unfolding(query_grammar::specs::ReadStatements::statement_form, query_grammar::specs::ReadStatements::prefer_form))]
+    fn statement(self, tokens: &mut Cursor<'_>) -> Result<QueryTree, Stop>
+        ensures { Reads (outcome self.depth statements.statement_form tokens.old) result tokens.new }
+    {
+        tokens.word(Keyword::Select)?;
+        let distinct = self.distinctness(tokens);
+        let select = self.select_list(tokens)?;
+        tokens.word(Keyword::From)?;
+        let from = self.from_items(tokens)?;
+        let filter = self.filter(tokens)?;
+        if tokens.at_word(Keyword::Preferring) {
+            let (prefer, (groups, only)) = self.prefer(tokens)?;
+            let order = self.ordering(tokens)?;
+            return Ok(QueryTree {
+                distinct,
+                select,
+                from,
+                filter,
+                prefer: Some(prefer),
+                groups,
+                only,
+                order,
+            });
+        }
+        let order = self.ordering(tokens)?;
+        Ok(QueryTree {
+            distinct,
+            select,
+            from,
+            filter,
+            prefer: None,
+            groups: List::new(self.alloc),
+            only: None,
+            order,
+        })
+    }
+
+    /// The statements, and whether these are so many that no more may follow.
+    pub fn script(self, tokens: &mut Cursor<'_>) -> Result<(List<QueryTree>, bool), Stop>
+        ensures { Reads (outcome self.depth (statements.counted 64) tokens.old) result tokens.new }
+    {
+        let mut found = List::new(self.alloc);
+        'more: for _turn in 0..MAX_STATEMENTS {
+            if !tokens.at_word(Keyword::Select) {
+                return Ok((found, false));
+            }
+            found.push(self.statement(tokens)?)?;
+            if !tokens.eat_symbol(Symbol::Semicolon) {
+                return Ok((found, false));
+            }
+        }
+        Ok((found, true))
+    }
+}
