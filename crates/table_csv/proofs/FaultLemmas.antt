@@ -17,6 +17,6 @@ pub fault_first : {T U : Type 0} (whole part more : List TableSpot) (v : T) (w :
 fault_first whole part more v w fault begins h = subst (λ faults. Gives (unless_faulty faults w) (Err fault)) (sym begins) (first_of part more v w fault h)
 
 -- a part that was read has no fault
-pub no_fault : {T : Type 0} (part : List TableSpot) (v u : T) → unless_faulty part v ≡ Ok u → (part ≡ []) × (v ≡ u)
+pub no_fault : {F T : Type 0} (part : List F) (v u : T) → unless_faulty part v ≡ Ok u → (part ≡ []) × (v ≡ u)
 no_fault [] v u is = (refl, cc)
 no_fault (first ∷ part) v u is = absurd (cc)

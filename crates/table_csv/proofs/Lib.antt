@@ -1,3 +1,4 @@
+pub mod CellLemmas
 pub mod FaultLemmas
 pub mod FieldLemmas
 pub mod FieldsLemmas
@@ -7,6 +8,7 @@ pub mod RowLemmas
 pub mod SchemaLemmas
 pub mod SourceLemmas
 pub mod TableLemmas
+pub mod TestLemmas
 pub mod ValidLemmas
 pub mod WordsLemmas
 pub mod WriterLemmas

@@ -16,7 +16,7 @@ use Rattle.prefsql_tables.specs.declared.schema.Column.{Column}
 use Rattle.table_csv.specs.Fault.{spots, when}
 use Rattle.table_csv.specs.Field.{is_text}
 use Rattle.table_csv.specs.Header.{column_of, column_of_words, columns_faults, has_column_shape, header_codes, header_faults, is_ending, is_name, is_name_byte, is_named, is_type, schema_of, words_in}
-use Rattle.table_csv.proofs.ValidLemmas.{and_left, and_right, at_most, below, both_empty, no_codes, not_when, true_from_not}
+use Rattle.table_csv.proofs.TestLemmas.{and_left, and_right, at_most, below, both_empty, no_codes, not_when, true_from_not}
 
 letter_ascii : (b : ℕ) → is_ascii_alphabetic b ≡ true → b < 128
 letter_ascii b is = grind (arith, nat_tests)

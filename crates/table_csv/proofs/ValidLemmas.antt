@@ -1,5 +1,5 @@
 -- What is read without a fault is valid.
-use Rattle.std.proofs.Common.{◌≡◌, ℕ, unsigned_abs, zero, suc, pos, neg_ℤ, ◌+◌, ◌≤◌, ◌<◌, ◌^◌, ◌==◌, ◌&&◌, List, [], ◌∷◌, ◌++◌, length, Bool, true, false, not, cond, nat_lt, refl, sym, subst, arith}
+use Rattle.std.proofs.Common.{◌≡◌, ℕ, unsigned_abs, zero, suc, pos, neg_ℤ, ◌+◌, ◌≤◌, ◌<◌, ◌^◌, ◌==◌, List, [], ◌∷◌, ◌++◌, length, Bool, true, false, not, cond, nat_lt, refl, sym, subst, arith}
 use Rattle.std.specs.Char.{is_ascii_digit}
 use Rattle.std.specs.List.{list_all}
 use Rattle.std.specs.Str.Parse.{digits_value, starts_with_minus, without_leading_sign}
@@ -13,41 +13,7 @@ use Rattle.table_csv.specs.Fault.{spots, when}
 use Rattle.table_csv.specs.Field.{digit_count, is_empty, is_numeral, is_text, number_codes, number_in}
 use Rattle.table_csv.specs.Row.{cells_faults, row_faults, values_of}
 use Rattle.table_csv.proofs.FieldLemmas.{digits_value_small}
-use Rattle.std.proofs.lemmas.Bool.Decides.{nat_tests}
-
--- two lists that are empty together
-pub both_empty : {A : Type 0} (xs ys : List A) → xs ++ ys ≡ [] → (xs ≡ []) × (ys ≡ [])
-both_empty [] ys is = (refl, is)
-both_empty (x ∷ xs) ys is = absurd (cc)
-
-pub no_codes : (number place : ℕ) (codes : List ℕ) → spots number place codes ≡ [] → codes ≡ []
-no_codes number place [] is = refl
-no_codes number place (code ∷ codes) is = absurd (cc)
-
-pub not_when : (b : Bool) (code : ℕ) → when b code ≡ [] → b ≡ false
-not_when true code is = absurd (cc)
-not_when false code is = refl
-
-pub true_from_not : (b : Bool) → not b ≡ false → b ≡ true
-true_from_not true is = refl
-true_from_not false is = absurd (cc)
-
-pub and_left : (a b : Bool) → (a && b) ≡ true → a ≡ true
-and_left true b is = refl
-and_left false b is = absurd (cc)
-
-pub at_most : (m n : ℕ) → nat_lt m n ≡ false → n ≤ m
-at_most m n is = grind (arith, nat_tests)
-
-pub below : (m n : ℕ) → nat_lt m n ≡ true → m < n
-below m n is = grind (arith, nat_tests)
-
-equal : (m n : ℕ) → (m == n) ≡ true → m ≡ n
-equal m n is = grind (arith, nat_tests)
-
-pub and_right : (a b : Bool) → (a && b) ≡ true → b ≡ true
-and_right true b is = is
-and_right false b is = absurd (cc)
+use Rattle.table_csv.proofs.TestLemmas.{and_right, at_most, both_empty, equal, no_codes, not_when, true_from_not}
 
 abs_neg : (n : ℕ) → unsigned_abs (neg_ℤ (pos n)) ≡ n
 abs_neg zero = refl

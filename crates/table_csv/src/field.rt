@@ -26,19 +26,19 @@ pub(crate) fn text_of(field: &[u8]) -> Option<&str>
     Some(text)
 }
 
-/// The number that a text writes, or the code of its first fault.
-pub(crate) fn number_of(text: &str) -> Result<i128, u16>
-    ensures { result ≡ unless_faulty (number_codes text.now) (number_in text.now) }
+/// The number that a field writes, or the code of its first fault.
+pub(crate) fn number_of(field: &[u8]) -> Result<i64, u16>
+    ensures { result ≡ unless_faulty (number_codes field.now) (number_in field.now) }
 {
-    let digits = without_sign(text.as_bytes());
+    let digits = without_sign(field);
     if digits.is_empty() || !are_digits(digits) {
         return Err(NO_NUMBER);
     }
     if digits.len() > MOST_DIGITS {
         return Err(TOO_MANY_DIGITS);
     }
-    let size = i128::from(value_of(digits));
-    if is_negative(text.as_bytes()) {
+    let size = value_of(digits) as i64;
+    if is_negative(field) {
         return Ok(-size);
     }
     Ok(size)
