@@ -8,3 +8,6 @@ mod script;
 
 pub use fault::ParseFault;
 pub use script::parse_script;
+
+#[cfg(test)]
+mod tests;

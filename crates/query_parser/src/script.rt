@@ -1,10 +1,11 @@
 //! Scripts.
 
-ghost use Rattle.std.specs.Prelude.{◌≡◌, IfOk, IfErr};
+ghost use Rattle.std.specs.Prelude.{◌≡◌, ◌≤◌, IfOk, IfErr, length};
 ghost use Rattle.prefsql_lexer.specs.Bounds.{AreTokensOf};
 ghost use Rattle.query_grammar.specs.Place.{SaysCode, place_of};
 ghost use Rattle.query_grammar.specs.Scripts.{IsScript};
 ghost use Rattle.query_parser.specs.Script.{SaysFault};
+ghost use Rattle.query_tree.specs.WellMade.{AreWellMade};
 
 use crate::fault::ParseFault;
 use prefsql_lexer::{Keyword, Spot, Token};
@@ -30,6 +31,8 @@ pub fn parse_script(
 ) -> Result<List<QueryTree>, ParseFault>
     requires { AreTokensOf 64 end tokens.now }
     ensures script { IfOk result (IsScript tokens.now) }
+    ensures well_made { IfOk result AreWellMade }
+    ensures few { IfOk result (λ trees. length trees ≤ length tokens.now) }
     ensures fault { IfErr result (SaysFault tokens.now end) }
 {
     let parser = Parser {

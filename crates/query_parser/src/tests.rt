@@ -1,0 +1,129 @@
+ghost use Rattle.std.specs.Prelude.{◌≤◌, length};
+
+use super::*;
+use prefsql_lexer::{Spot, tokens};
+use prefsql_values::List;
+use query_tree::QueryTree;
+use std::alloc::Global;
+use std::test::Fail;
+
+/// The trees of a script that the lexer cuts, or the grammar fault.
+fn parsed(alloc: Global, script: &str) -> Result<Result<List<QueryTree>, ParseFault>, Fail>
+    requires { length script.now ≤ 268435456 }
+{
+    let Ok(found) = tokens(alloc, script.as_bytes(), 64) else {
+        return Err("refused by the lexer".into());
+    };
+    Ok(parse_script(alloc, found.as_slice(), script.len() as u32))
+}
+
+/// The one statement of a script, as it is printed.
+fn shown(alloc: Global, script: &str) -> Result<String, Fail>
+    requires { length script.now ≤ 268435456 }
+{
+    match parsed(alloc, script)? {
+        Ok(trees) => match trees.as_slice().first() {
+            Some(tree) => Ok(format!(in alloc; "{tree:?}")?),
+            None => Err("no statement".into()),
+        },
+        Err(fault) => Ok(format!(in alloc; "{fault:?}")?),
+    }
+}
+
+// Codes and places are counted by hand.
+#[test]
+fn first_faults(rt: HostRuntime) -> Result<(), Fail> {
+    for (script, code, at) in [
+        ("SELECT id FROM cars PREFERRING LOWEST(price) AND", 202, 48),
+        ("SELECT id FROM cars PREFERRING AND", 201, 31),
+        ("SELECT id FROM cars;;", 201, 20),
+        ("SELECT id FROM cars; SELECT", 202, 27),
+        ("SELECT id FROM cars WHERE NOT NOT id = 1", 201, 30),
+        (
+            "SELECT id FROM cars PREFERRING id EXPLICIT (1 > 2) REGULAR",
+            201,
+            51,
+        ),
+        (
+            "SELECT id FROM cars PREFERRING id LAYERED (OTHERS, OTHERS)",
+            201,
+            51,
+        ),
+        (
+            "SELECT id FROM cars PREFERRING id LAYERED (OTHERS)",
+            201,
+            49,
+        ),
+        ("SELECT id FROM cars WHERE LEVEL(id) = 1", 201, 26),
+    ] {
+        let fault = parsed(rt.alloc(), script)?.err();
+        assert_eq!(rt; fault, Some(ParseFault::Bad(Spot { code, at })), "{script}");
+    }
+    Ok(())
+}
+
+// A script of 64 statements has 64 trees. In one of 65 the last SELECT is too many, at byte 64 times 20.
+#[test]
+fn at_most_64_statements(rt: HostRuntime) -> Result<(), Fail> {
+    let alloc = rt.alloc();
+    let mut cut = Vec::new(alloc);
+    for _ in 0..64 {
+        cut.push("SELECT id FROM cars;")?;
+    }
+    let mut script = String::new(alloc);
+    for statement in cut.as_slice() {
+        script.push_str(statement)?;
+    }
+    let found = parsed_if_short(alloc, script.as_str())?;
+    assert_eq!(rt; found.map(|trees| trees.as_slice().len()).ok(), Some(64));
+    script.push_str("SELECT id FROM cars")?;
+    let fault = parsed_if_short(alloc, script.as_str())?.err();
+    assert_eq!(rt;
+        fault,
+        Some(ParseFault::Bad(Spot {
+            code: 203,
+            at: 1280
+        }))
+    );
+    let none = parsed(alloc, " -- nothing")?;
+    assert_eq!(rt; none.map(|trees| trees.as_slice().len()).ok(), Some(0));
+    Ok(())
+}
+
+/// The same of a script of any length.
+fn parsed_if_short(
+    alloc: Global,
+    script: &str,
+) -> Result<Result<List<QueryTree>, ParseFault>, Fail> {
+    if script.len() > 268_435_456 {
+        return Err("too long".into());
+    }
+    parsed(alloc, script)
+}
+
+#[test]
+fn sixty_four_parentheses(rt: HostRuntime) -> Result<(), Fail> {
+    let script =
+        "SELECT id FROM cars WHERE ((((((((((((((((((((((((((((((((((((((((((((((((((((((((((((((((id = 1))))))))))))))))))))))))))))))))))))))))))))))))))))))))))))))))";
+    let found = parsed(rt.alloc(), script)?;
+    assert_eq!(rt; found.map(|trees| trees.as_slice().len()).ok(), Some(1));
+    Ok(())
+}
+
+// Each production once, its tree and its places: the places are counted from the script, the shapes are written by hand.
+#[test]
+fn trees_and_places(rt: HostRuntime) -> Result<(), Fail> {
+    for (script, want) in [
+        (
+            "SELECT DISTINCT a, b.c AS d, LEVEL(a) l, DISTANCE(a) FROM t, u AS v WHERE a = 1 AND NOT b.c NOT IN ('x', -2) OR a IS NOT NULL AND a BETWEEN +1 AND 2 PREFERRING (a IN (1, 2) ELSE a <> 3) AND LOWEST(b.c) TRIVIAL CASCADE b.c EXPLICIT ('x' > 'y') AND HIGHEST(a) REGULAR GROUPING a, b.c BUT ONLY TOP(a) AND LEVEL(a) <= 2 ORDER BY d DESC, 2 -- end",
+            "QueryTree { distinct: true, select: Items(List { items: [ItemTree { value: Column(NameTree { first: Text { text: \"A\" }, second: None, at: 16 }), name: None }, ItemTree { value: Column(NameTree { first: Text { text: \"B\" }, second: Some(Text { text: \"C\" }), at: 19 }), name: Some(Text { text: \"D\" }) }, ItemTree { value: Level(NameTree { first: Text { text: \"A\" }, second: None, at: 35 }, 29), name: Some(Text { text: \"L\" }) }, ItemTree { value: Distance(NameTree { first: Text { text: \"A\" }, second: None, at: 50 }, 41), name: None }] }), from: List { items: [FromTree { table: Text { text: \"T\" }, name: None, at: 58, name_at: 58 }, FromTree { table: Text { text: \"U\" }, name: Some(Text { text: \"V\" }), at: 61, name_at: 66 }] }, filter: Some(Or(List { items: [And(List { items: [Compare(Eq, Column(NameTree { first: Text { text: \"A\" }, second: None, at: 74 }), Literal(LiteralTree { value: Num(1), at: 78 })), Not(Boxed { inner: OneOf(true, Column(NameTree { first: Text { text: \"B\" }, second: Some(Text { text: \"C\" }), at: 88 }), List { items: [Literal(LiteralTree { value: Str(Text { text: \"x\" }), at: 100 }), Literal(LiteralTree { value: Num(-2), at: 105 })] }) })] }), And(List { items: [IsNull(true, Column(NameTree { first: Text { text: \"A\" }, second: None, at: 112 })), Between(false, Column(NameTree { first: Text { text: \"A\" }, second: None, at: 130 }), Literal(LiteralTree { value: Num(1), at: 140 }), Literal(LiteralTree { value: Num(2), at: 147 }))] })] })), prefer: Some(Prior(List { items: [Pareto(List { items: [Base(BaseTree { column: NameTree { first: Text { text: \"A\" }, second: None, at: 161 }, form: PosNeg(SetTree { literals: List { items: [LiteralTree { value: Num(1), at: 167 }, LiteralTree { value: Num(2), at: 170 }] } }, NameTree { first: Text { text: \"A\" }, second: None, at: 178 }, SetTree { literals: List { items: [LiteralTree { value: Num(3), at: 183 }] } }), trivial: false, at: 161 }), Base(BaseTree { column: NameTree { first: Text { text: \"B\" }, second: Some(Text { text: \"C\" }), at: 197 }, form: Lowest, trivial: true, at: 190 })] }), Pareto(List { items: [Base(BaseTree { column: NameTree { first: Text { text: \"B\" }, second: Some(Text { text: \"C\" }), at: 218 }, form: Explicit(List { items: [EdgeTree { upper: LiteralTree { value: Str(Text { text: \"x\" }), at: 232 }, lower: LiteralTree { value: Str(Text { text: \"y\" }), at: 238 } }] }), trivial: true, at: 218 }), Base(BaseTree { column: NameTree { first: Text { text: \"A\" }, second: None, at: 255 }, form: Highest, trivial: false, at: 247 })] })] })), groups: List { items: [NameTree { first: Text { text: \"A\" }, second: None, at: 275 }, NameTree { first: Text { text: \"B\" }, second: Some(Text { text: \"C\" }), at: 278 }] }, only: Some(And(List { items: [Top(NameTree { first: Text { text: \"A\" }, second: None, at: 295 }), Compare(Le, Level(NameTree { first: Text { text: \"A\" }, second: None, at: 308 }, 302), Literal(LiteralTree { value: Num(2), at: 314 }))] })), order: List { items: [OrderTree { key: Name(Text { text: \"D\" }), descending: true, at: 325 }, OrderTree { key: Position(2), descending: false, at: 333 }] } }",
+        ),
+        (
+            "SELECT * FROM t PREFERRING a LAYERED ((1), (2)) AND a LAYERED ((1), OTHERS) AND a LAYERED ((1), OTHERS, (2)) AND a LAYERED (OTHERS, (1)) AND a AROUND 5 AND a BETWEEN 1 AND 2 AND a NOT IN (1) AND a = 1 ELSE a IN (2)",
+            "QueryTree { distinct: false, select: All, from: List { items: [FromTree { table: Text { text: \"T\" }, name: None, at: 14, name_at: 14 }] }, filter: None, prefer: Some(Pareto(List { items: [Base(BaseTree { column: NameTree { first: Text { text: \"A\" }, second: None, at: 27 }, form: Layered(List { items: [SetTree { literals: List { items: [LiteralTree { value: Num(1), at: 39 }] } }, SetTree { literals: List { items: [LiteralTree { value: Num(2), at: 44 }] } }] }, List { items: [] }), trivial: false, at: 27 }), Base(BaseTree { column: NameTree { first: Text { text: \"A\" }, second: None, at: 52 }, form: Layered(List { items: [SetTree { literals: List { items: [LiteralTree { value: Num(1), at: 64 }] } }] }, List { items: [] }), trivial: false, at: 52 }), Base(BaseTree { column: NameTree { first: Text { text: \"A\" }, second: None, at: 80 }, form: Layered(List { items: [SetTree { literals: List { items: [LiteralTree { value: Num(1), at: 92 }] } }] }, List { items: [SetTree { literals: List { items: [LiteralTree { value: Num(2), at: 105 }] } }] }), trivial: false, at: 80 }), Base(BaseTree { column: NameTree { first: Text { text: \"A\" }, second: None, at: 113 }, form: Layered(List { items: [] }, List { items: [SetTree { literals: List { items: [LiteralTree { value: Num(1), at: 133 }] } }] }), trivial: false, at: 113 }), Base(BaseTree { column: NameTree { first: Text { text: \"A\" }, second: None, at: 141 }, form: Around(LiteralTree { value: Num(5), at: 150 }), trivial: false, at: 141 }), Base(BaseTree { column: NameTree { first: Text { text: \"A\" }, second: None, at: 156 }, form: Between(LiteralTree { value: Num(1), at: 166 }, LiteralTree { value: Num(2), at: 172 }), trivial: false, at: 156 }), Base(BaseTree { column: NameTree { first: Text { text: \"A\" }, second: None, at: 178 }, form: Neg(SetTree { literals: List { items: [LiteralTree { value: Num(1), at: 188 }] } }), trivial: false, at: 178 }), Base(BaseTree { column: NameTree { first: Text { text: \"A\" }, second: None, at: 195 }, form: PosPos(SetTree { literals: List { items: [LiteralTree { value: Num(1), at: 199 }] } }, NameTree { first: Text { text: \"A\" }, second: None, at: 206 }, SetTree { literals: List { items: [LiteralTree { value: Num(2), at: 212 }] } }), trivial: false, at: 195 })] })), groups: List { items: [] }, only: None, order: List { items: [] } }",
+        ),
+    ] {
+        assert_eq!(rt; shown(rt.alloc(), script)?.as_str(), want);
+    }
+    Ok(())
+}
