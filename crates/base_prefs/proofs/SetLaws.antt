@@ -14,7 +14,8 @@ use Rattle.base_prefs.specs.declared.kind.Kind.TheVariants.{Layered}
 use Rattle.base_prefs.specs.KindLimits.{IsSound, AreKeptLayers}
 use Rattle.base_prefs.specs.Sets.{once, written, Share, HasOverlap, IsGivenSet, IsKeptSet, AreKeptSets}
 use Rattle.base_prefs.specs.Table.{share, shares_any, overlaps}
-use Rattle.base_prefs.specs.Values.{is_in, IsLiteral}
+use Rattle.base_prefs.specs.Values.{is_in}
+use Rattle.prefsql_values.specs.Limits.{IsLiteralValue}
 use Rattle.base_prefs.proofs.Firsts.{among_from_firsts, firsts_shorter, firsts_some, All-firsts, AllPairs-firsts}
 use Rattle.base_prefs.proofs.KindMeaning.{is_in-Decides, along}
 
@@ -86,7 +87,7 @@ written_once (s ∷ sets) =
 
 kept_once : (s : ValueSet) → IsGivenSet s → IsKeptSet (once s)
 kept_once s given = record {
-  given = record { some = firsts_some s.values given.some; literal = All-firsts IsLiteral s.values given.literal };
+  given = record { some = firsts_some s.values given.some; literal = All-firsts IsLiteralValue s.values given.literal };
   different = AllPairs-firsts s.values;
 }
 

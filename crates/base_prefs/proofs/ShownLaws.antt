@@ -12,7 +12,7 @@ use Rattle.base_prefs.specs.declared.view.BaseView.TheVariants as view
 use Rattle.base_prefs.specs.Graph.{ends, graph_values}
 use Rattle.base_prefs.specs.Kind.{edges_of, has_level, is_explicit, IsJudged, IsWithinBound}
 use Rattle.base_prefs.specs.Outcome.{IsExplicitOf}
-use Rattle.base_prefs.specs.Values.{IsLiteral}
+use Rattle.prefsql_values.specs.Limits.{IsLiteralValue}
 use Rattle.base_prefs.specs.View.{IsViewOf}
 use Rattle.base_prefs.proofs.Closing.{ends_push}
 
@@ -63,10 +63,10 @@ layered_made_ranks before after (Ok kind) h = ap has_level h
 layered_made_ranks before after (Err fault) h = tt
 
 -- one edge more, of values that a script can write
-pub edge_pushed : (edges new : List Edge) (e : Edge) (n : ℕ) → (length edges ≡ n) × All IsLiteral (ends edges) → IsLiteral e.upper → IsLiteral e.lower → new ≡ edges ++ e ∷ []
-    → (length new ≡ n + 1) × All IsLiteral (ends new)
+pub edge_pushed : (edges new : List Edge) (e : Edge) (n : ℕ) → (length edges ≡ n) × All IsLiteralValue (ends edges) → IsLiteralValue e.upper → IsLiteralValue e.lower → new ≡ edges ++ e ∷ []
+    → (length new ≡ n + 1) × All IsLiteralValue (ends new)
 edge_pushed edges new e n before upper lower pushed = (
   ap length pushed ∙ length-append edges (e ∷ []) ∙ ap (λ k. k + 1) before.0,
-  subst (λ vs. All IsLiteral vs) (sym (ap ends pushed ∙ ends_push edges e))
-      (All-push IsLiteral (ends edges ++ e.upper ∷ []) e.lower (All-push IsLiteral (ends edges) e.upper before.1 upper) lower),
+  subst (λ vs. All IsLiteralValue vs) (sym (ap ends pushed ∙ ends_push edges e))
+      (All-push IsLiteralValue (ends edges ++ e.upper ∷ []) e.lower (All-push IsLiteralValue (ends edges) e.upper before.1 upper) lower),
 )

@@ -2,7 +2,8 @@
 use Rattle.std.specs.Prelude.{◌≢◌, ℕ, ◌+◌, ◌<◌, ◌≤◌, ◌⊎◌, if◌then◌else◌, List, [], ◌∷◌, ◌++◌, length, All, AllPairs, Any, Contains}
 use Rattle.prefsql_values.specs.declared.value.Value.{Value}
 use Rattle.base_prefs.specs.declared.edge.ValueSet.{ValueSet}
-use Rattle.base_prefs.specs.Values.{IsLiteral, is_in, firsts}
+use Rattle.base_prefs.specs.Values.{is_in, firsts}
+use Rattle.prefsql_values.specs.Limits.{IsLiteralValue}
 
 -- the set with each of its values once, at its first place
 abbrev pub once : ValueSet → ValueSet
@@ -25,7 +26,7 @@ HasOverlap (s ∷ later) = Any (Share s) later ⊎ HasOverlap later
 -- a set of some values that a script can write
 pub record IsGivenSet (s : ValueSet) : Type 0 where
   pub some : 0 < length s.values
-  pub literal : All IsLiteral s.values
+  pub literal : All IsLiteralValue s.values
 
 -- the same with each value once: any two of its values differ
 pub record IsKeptSet (s : ValueSet) : Type 0 where

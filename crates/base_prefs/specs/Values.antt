@@ -1,20 +1,8 @@
 -- Values that a preference names.
-use Rattle.std.specs.Prelude.{ℕ, ◌+◌, ◌<◌, ◌^◌, ℤ, Bool, not, if◌then◌else◌, List, [], ◌∷◌, filter, ⊤}
+use Rattle.std.specs.Prelude.{ℕ, ◌+◌, Bool, not, if◌then◌else◌, List, [], ◌∷◌, filter}
 use Rattle.std.specs.List.{list_any}
-use Rattle.std.specs.Int.RustNames.{unsigned_abs}
 use Rattle.prefsql_values.specs.declared.value.Value.{Value}
-use Rattle.prefsql_values.specs.declared.value.Value.TheVariants.{Num, Str, Null}
 use Rattle.prefsql_values.specs.Value.{value_eq}
-
--- a number of at most eighteen digits
-abbrev pub IsShort : ℤ → Type 0
-IsShort n = unsigned_abs n < 10 ^ 18
-
--- what a script can write as a value: a number of at most eighteen digits, or a text
-abbrev pub IsLiteral : Value → Type 0
-IsLiteral (Num n) = IsShort n
-IsLiteral (Str s) = ⊤
-IsLiteral Null = ⊥
 
 -- whether the value is one of them
 abbrev pub is_in : List Value → Value → Bool

@@ -41,7 +41,7 @@ kept_name n is = choose (nat_le 1 n && nat_le n 64) refl is
 
 name_short : (kind : TokenKind) (len : ℕ) → size_fault kind len ≡ None → IsNameShort kind
 name_short (Word k) len is = tt
-name_short (Name name) len is = kept_name (length (chars name)) is
+name_short (Name name) len is = let kept = kept_name (length (chars name)) is in record { not_empty = kept.0; short = kept.1 }
 name_short (Number n) len is = tt
 name_short (Chars value) len is = tt
 name_short (SymbolKind s) len is = tt

@@ -1,6 +1,6 @@
 -- What a parser may take for granted of the tokens of a script. These limits are this project's own.
-use Rattle.std.specs.Prelude.{◌≤◌, ◌<◌, ◌^◌, ℕ, pos, ◌≤ℤ◌, ◌<ℤ◌, List, [], ◌∷◌, length, All, ⊤}
-use Rattle.std.specs.Str.{chars}
+use Rattle.std.specs.Prelude.{◌≤◌, ◌<◌, ℕ, List, [], ◌∷◌, All, ⊤}
+use Rattle.prefsql_values.specs.Limits.{IsName, IsUnsignedShort}
 use Rattle.prefsql_lexer.specs.declared.token.Token.{Token}
 use Rattle.prefsql_lexer.specs.declared.token.TokenKind.{TokenKind}
 use Rattle.prefsql_lexer.specs.declared.token.TokenKind.TheVariants.{Name, Number}
@@ -8,12 +8,12 @@ use Rattle.prefsql_lexer.specs.Tokens.{depth_after}
 
 -- a name has 1 to 64 characters
 abbrev pub IsNameShort : TokenKind → Type 0
-IsNameShort (Name name) = (1 ≤ length (chars name)) × (length (chars name) ≤ 64)
+IsNameShort (Name name) = IsName name
 IsNameShort _ = ⊤
 
 -- a number is one that 18 digits write
 abbrev pub IsNumberSmall : TokenKind → Type 0
-IsNumberSmall (Number n) = (pos 0 ≤ℤ n) × (n <ℤ pos (10 ^ 18))
+IsNumberSmall (Number n) = IsUnsignedShort n
 IsNumberSmall _ = ⊤
 
 -- after each token the depth is within the limit, where it is this before the first

@@ -6,7 +6,8 @@ use Rattle.std.proofs.lemmas.Slice.Eq.{bytes_eq-Decides}
 use Rattle.prefsql_values.specs.declared.value.Domain.TheVariants.{Integer, Chars}
 use Rattle.prefsql_tables.specs.declared.schema.Column.{Column}
 use Rattle.prefsql_tables.specs.Names.{names_of}
-use Rattle.prefsql_tables.specs.Valid.{IsName, IsSchema, AllDiffer}
+use Rattle.prefsql_tables.specs.Valid.{IsSchema, AllDiffer}
+use Rattle.prefsql_values.specs.Limits.{IsName}
 
 pub cars_is_name : IsName (codes "CARS")
 unfolding chars

@@ -10,7 +10,8 @@ use Rattle.prefsql_values.specs.declared.value.Value.TheVariants.{Null}
 use Rattle.prefsql_tables.specs.Names.{table_names}
 use Rattle.prefsql_tables.specs.Table.{no_table, no_row, columns_of, rows_of, cell_at, HasCell}
 use Rattle.prefsql_tables.specs.TableData.{TableData, NamedTable}
-use Rattle.prefsql_tables.specs.Valid.{IsCell, IsRow, IsName, IsTable, IsTableSet, AllDiffer}
+use Rattle.prefsql_tables.specs.Valid.{IsCell, IsRow, IsTable, IsTableSet, AllDiffer}
+use Rattle.prefsql_values.specs.Limits.{IsName}
 
 -- a row has one cell for each column
 pub length-IsRow : (columns : List Column) (values : List Value) → IsRow columns values → length values ≡ length columns

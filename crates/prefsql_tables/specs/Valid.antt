@@ -1,6 +1,6 @@
 -- Which names, columns, rows, tables and sets of tables are valid. The rules and limits are this project's own.
-use Rattle.std.specs.Prelude.{ℕ, ◌≡◌, ◌≢◌, ◌≤◌, ◌<◌, ◌^◌, List, [], ◌∷◌, length, map, All, AllPairs, IsTrue, unsigned_abs}
-use Rattle.std.specs.Str.{chars}
+use Rattle.std.specs.Prelude.{ℕ, ◌≡◌, ◌≢◌, ◌≤◌, ◌^◌, List, [], ◌∷◌, length, map, All, AllPairs, IsTrue}
+use Rattle.prefsql_values.specs.Limits.{IsName, IsShort}
 use Rattle.prefsql_values.specs.declared.value.Domain.TheVariants.{Integer, Chars}
 use Rattle.prefsql_values.specs.declared.value.Value.{Value}
 use Rattle.prefsql_values.specs.declared.value.Value.TheVariants.{Num, Str, Null}
@@ -8,11 +8,6 @@ use Rattle.prefsql_tables.specs.declared.schema.Column.{Column}
 use Rattle.prefsql_tables.specs.declared.table.AnswerRow.{AnswerRow}
 use Rattle.prefsql_tables.specs.Names.{names_of, table_names}
 use Rattle.prefsql_tables.specs.TableData.{TableData, NamedTable}
-
--- a text of 1 to 64 characters
-pub record IsName (text : List ℕ) : Type 0 where
-  pub not_empty : 1 ≤ length (chars text)
-  pub short : length (chars text) ≤ 64
 
 -- no two names are equal
 abbrev pub AllDiffer : List (List ℕ) → Type 0
@@ -27,7 +22,7 @@ pub record IsSchema (columns : List Column) : Type 0 where
 
 -- a value that the column may hold: a number of at most 18 digits, a text, or NULL where the column admits it
 abbrev pub IsCell : Column → Value → Type 0
-IsCell column (Num n) = (column.domain ≡ Integer) × (unsigned_abs n < 10 ^ 18)
+IsCell column (Num n) = (column.domain ≡ Integer) × IsShort n
 IsCell column (Str text) = column.domain ≡ Chars
 IsCell column Null = IsTrue column.nullable
 

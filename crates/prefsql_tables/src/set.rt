@@ -2,7 +2,8 @@ ghost use Rattle.std.specs.Prelude.{◌≡◌, ◌<◌, ◌^◌, ◌↔◌, [], 
 ghost use Rattle.prefsql_values.specs.Value.{value_of};
 ghost use Rattle.prefsql_tables.specs.Names.{IsPlaceAmong, table_names, table_place};
 ghost use Rattle.prefsql_tables.specs.Table.{HasTable, HasCell, table_at, columns_of, rows_of, cell_at};
-ghost use Rattle.prefsql_tables.specs.Valid.{IsName, IsTable, IsTableSet};
+ghost use Rattle.prefsql_tables.specs.Valid.{IsTable, IsTableSet};
+ghost use Rattle.prefsql_values.specs.Limits.{IsName};
 
 use crate::schema::Schema;
 use crate::table::Table;

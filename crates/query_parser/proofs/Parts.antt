@@ -1,6 +1,5 @@
 -- What names, numbers and literals are of tokens within the limits, and lists of well made parts.
-use Rattle.std.proofs.Common.{◌≡◌, ◌≤◌, ◌<◌, ◌+◌, ◌^◌, ℕ, ℤ, pos, List, [], ◌∷◌, length, All, sym, ap, subst, ◌∙◌, arith}
-use Rattle.std.specs.Prelude.{◌≤ℤ◌, ◌<ℤ◌}
+use Rattle.std.proofs.Common.{◌≡◌, ◌≤◌, ◌<◌, ◌+◌, ◌^◌, ℕ, ℤ, List, [], ◌∷◌, length, All, sym, ap, subst, ◌∙◌, arith}
 use Rattle.std.specs.List.{flat_map}
 use Rattle.std.proofs.lemmas.List.Elements.{All-nil, All-cons}
 use Rattle.grammar_forms.specs.Form.{token}
@@ -15,7 +14,8 @@ use Rattle.prefsql_lexer.specs.declared.token.Keyword.TheVariants as word
 use Rattle.prefsql_lexer.specs.declared.token.Symbol.{Symbol}
 use Rattle.prefsql_lexer.specs.declared.token.Symbol.TheVariants as symbol
 use Rattle.query_tree.proofs.Rising.{Rises, Rises-wider, Rises-append}
-use Rattle.query_tree.specs.WellMade.{IsName, IsFilled}
+use Rattle.query_tree.specs.WellMade.{IsFilled}
+use Rattle.prefsql_values.specs.Limits.{IsName, IsUnsignedShort}
 use Rattle.query_grammar.specs.Classes.{class, kind_class, word_class, symbol_class, text_in, number_in}
 use Rattle.query_grammar.specs.Forms.{Grammar, Rule, Named, name, number, separated, in_parens, ◌⨟>◌}
 use Rattle.query_grammar.proofs.Depth.{rises, falls}
@@ -85,11 +85,7 @@ name_is (kind.Number n) e f = absurd (omega (arith, e))
 name_is (kind.Chars t) e f = absurd (omega (arith, e))
 name_is (kind.Symbol s) e f = absurd (let n = symbol_class_is s in omega (arith, e))
 
--- a number from 0 that 18 digits write
-abbrev pub IsSmall : ℤ → Type 0
-IsSmall n = (pos 0 ≤ℤ n) × (n <ℤ pos (10 ^ 18))
-
-number_is : (k : TokenKind) → kind_class k ≡ 1 → IsNumberSmall k → IsSmall (number_in k)
+number_is : (k : TokenKind) → kind_class k ≡ 1 → IsNumberSmall k → IsUnsignedShort (number_in k)
 number_is (kind.Word w) e f = absurd (let n = word_class_is w in omega (arith, e))
 number_is (kind.Name t) e f = absurd (omega (arith, e))
 number_is (kind.Number n) e f = f
@@ -151,7 +147,7 @@ module _ (last : ℕ) (Good : (A : Type 0) → Rule A → ℕ → ℕ → ℕ �
       }
 
   pub record NumberPart (lo hi : ℕ) (n : ℤ × ℕ) : Type 0 where
-    pub good : IsSmall n.0
+    pub good : IsUnsignedShort n.0
     pub from : lo ≤ n.1
     pub upto : n.1 < hi
 
@@ -163,7 +159,7 @@ module _ (last : ℕ) (Good : (A : Type 0) → Rule A → ℕ → ℕ → ℕ �
       let value : n.0 ≡ number_in t.kind = ap (λ z. z.0) e in
       let place : n.1 ≡ t.start = ap (λ z. z.1) e in
       record {
-        good = subst IsSmall (sym value) (number_is t.kind w.1 s.fine.1);
+        good = subst IsUnsignedShort (sym value) (number_is t.kind w.1 s.fine.1);
         from = omega (arith, place, s.from);
         upto = omega (arith, place, s.filled, s.upto);
       }

@@ -14,12 +14,13 @@ use Rattle.query_tree.specs.declared.preference.SetTree.{SetTree}
 use Rattle.query_tree.specs.declared.preference.EdgeTree.{EdgeTree}
 use Rattle.query_tree.proofs.Rising.{Rises}
 use Rattle.query_tree.specs.Places.{scalar_places, set_places, edge_places}
-use Rattle.query_tree.specs.WellMade.{IsName, IsColumn, IsLiteral, IsScalar, IsSet, IsEdge, IsFilled}
+use Rattle.query_tree.specs.WellMade.{IsColumn, IsLiteral, IsScalar, IsSet, IsEdge, IsFilled}
+use Rattle.prefsql_values.specs.Limits.{IsName, IsUnsignedShort}
 use Rattle.query_grammar.specs.Forms.{Rule, Named, name, text_of, symbol_only, ◌⨟>◌}
 use Rattle.query_grammar.specs.Columns.{column, column_tree, sign, optional_sign, number_literal, text_literal, number_form, literal, literals}
 use Rattle.query_grammar.specs.Scalars.{level, distance, plain_scalar, scalar, scalars}
 use Rattle.query_grammar.specs.Sets.{set, sets, set_tree, edge, edges, edge_tree, single}
-use Rattle.query_parser.proofs.Parts.{Part, Parts, moved, At, name_part, number_part, IsSmall, stands_filled, skip, separated_parts, parts_filled, enclosed_part}
+use Rattle.query_parser.proofs.Parts.{Part, Parts, moved, At, name_part, number_part, stands_filled, skip, separated_parts, parts_filled, enclosed_part}
 
 abbrev pub column_place : NameTree → List ℕ
 column_place c = c.at ∷ []
@@ -27,11 +28,11 @@ column_place c = c.at ∷ []
 abbrev pub literal_place : LiteralTree → List ℕ
 literal_place l = l.at ∷ []
 
-small_size : (n : ℤ) → IsSmall n → nat_abs n < 10 ^ 18
+small_size : (n : ℤ) → IsUnsignedShort n → nat_abs n < 10 ^ 18
 small_size (pos k) s = let below = s.1 in omega (arith, ints, below)
 small_size (negsuc k) s = absurd (let above = s.0 in omega (arith, ints, above))
 
-small_negative : (n : ℤ) → IsSmall n → nat_abs (neg_ℤ n) < 10 ^ 18
+small_negative : (n : ℤ) → IsUnsignedShort n → nat_abs (neg_ℤ n) < 10 ^ 18
 small_negative (pos zero) s = let below = s.1 in omega (arith, ints, below)
 small_negative (pos (suc k)) s = let below = s.1 in omega (arith, ints, below)
 small_negative (negsuc k) s = absurd (let above = s.0 in omega (arith, ints, above))
@@ -71,7 +72,7 @@ module _ (last : ℕ) (Good : (A : Type 0) → Rule A → ℕ → ℕ → ℕ �
       let at : v.1 ≡ w.1.0.start = ap (λ z. z.1) w.2 ∙ w.1.3 in
       (omega (arith, s.from, at), omega (arith, s.filled, s.upto, at))
 
-  number_by : (lo m hi : ℕ) (o : Option (Bool × ℕ)) (n : ℤ × ℕ) → lo ≤ m → ((v : Bool × ℕ) → o ≡ Some v → (lo ≤ v.1) × (v.1 < m)) → IsSmall n.0 → m ≤ n.1 → n.1 < hi → Part IsLiteral literal_place lo hi (number_literal (o, n))
+  number_by : (lo m hi : ℕ) (o : Option (Bool × ℕ)) (n : ℤ × ℕ) → lo ≤ m → ((v : Bool × ℕ) → o ≡ Some v → (lo ≤ v.1) × (v.1 < m)) → IsUnsignedShort n.0 → m ≤ n.1 → n.1 < hi → Part IsLiteral literal_place lo hi (number_literal (o, n))
   number_by lo m hi None n le at s from upto = record { good = small_size n.0 s; rising = (omega (arith, le, from), omega (arith, upto)); filled = omega (arith, le, from, upto) }
   number_by lo m hi (Some (false, p)) n le at s from upto = let a = at (false, p) refl in record { good = small_size n.0 s; rising = (a.0, omega (arith, a.1, from, upto)); filled = omega (arith, le, from, upto) }
   number_by lo m hi (Some (true, p)) n le at s from upto = let a = at (true, p) refl in record { good = small_negative n.0 s; rising = (a.0, omega (arith, a.1, from, upto)); filled = omega (arith, le, from, upto) }

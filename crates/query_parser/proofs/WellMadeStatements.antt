@@ -24,7 +24,8 @@ use Rattle.query_tree.specs.declared.query.QueryTree.{QueryTree}
 use Rattle.query_tree.proofs.Rising.{Rises, Rises-ends, Rises-wider, Rises-append, Rises-sorted}
 use Rattle.query_tree.specs.Nesting.{alone}
 use Rattle.query_tree.specs.Places.{scalar_places, cond_places, pref_places, select_places, places_if, query_places}
-use Rattle.query_tree.specs.WellMade.{IsName, IsColumn, IsOutput, IsItem, IsSelect, IsFrom, IsOrderName, IsOrder, IsCondition, IsPref, IsQuery, IsCountable, AreWellMade}
+use Rattle.query_tree.specs.WellMade.{IsColumn, IsOutput, IsItem, IsSelect, IsFrom, IsOrderName, IsOrder, IsCondition, IsPref, IsQuery, IsCountable, AreWellMade}
+use Rattle.prefsql_values.specs.Limits.{IsName}
 use Rattle.query_grammar.specs.Classes.{class}
 use Rattle.query_grammar.specs.Forms.{Grammar, Rule, condition_rule, preference_rule, Named, name, number, word_only, or_none, text_of, ◌⨟>◌}
 use Rattle.query_grammar.specs.Columns.{column, columns, direction, order, orders, named_key, position_key, order_tree}

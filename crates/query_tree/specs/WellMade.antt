@@ -1,9 +1,7 @@
 -- What is true of each tree that the grammar builds from tokens. These bounds and shapes are this project's own.
-use Rattle.std.specs.Prelude.{◌≡◌, ◌<◌, ◌≤◌, ◌+◌, ◌^◌, ℕ, pos, nat_abs, ◌<ℤ◌, ◌≤ℤ◌, Bool, true, false, List, [], length, All, ⊤, IfSome, IfNone, IsNone, IsTrue}
+use Rattle.std.specs.Prelude.{◌≡◌, ◌<◌, ◌≤◌, ◌+◌, ◌^◌, ℕ, Bool, true, false, List, [], length, All, ⊤, IfSome, IfNone, IsNone, IsTrue}
 use Rattle.std.specs.List.Sorted.{IsNonDecreasing}
-use Rattle.std.specs.Str.{chars}
-use Rattle.prefsql_values.specs.declared.value.Value.{Value}
-use Rattle.prefsql_values.specs.declared.value.Value.TheVariants.{Num, Str, Null}
+use Rattle.prefsql_values.specs.Limits.{IsName, IsLiteralValue, IsUnsignedShort}
 use Rattle.query_tree.specs.declared.name.NameTree.{NameTree}
 use Rattle.query_tree.specs.declared.name.LiteralTree.{LiteralTree}
 use Rattle.query_tree.specs.declared.condition.ScalarTree.{ScalarTree}
@@ -42,19 +40,9 @@ IsChain count = (2 ≤ count) × (count < 2 ^ 32)
 
 -- ---- names and literals
 
--- 1 to 64 characters
-abbrev pub IsName : List ℕ → Type 0
-IsName name = (1 ≤ length (chars name)) × (length (chars name) ≤ 64)
-
 pub record IsColumn (name : NameTree) : Type 0 where
   pub first : IsName name.first
   pub second : IfSome name.second IsName
-
--- a text, or a number that a sign and 18 digits write
-abbrev pub IsLiteralValue : Value → Type 0
-IsLiteralValue (Num n) = nat_abs n < 10 ^ 18
-IsLiteralValue (Str text) = ⊤
-IsLiteralValue Null = ⊥
 
 abbrev pub IsLiteral : LiteralTree → Type 0
 IsLiteral literal = IsLiteralValue literal.value
@@ -165,7 +153,7 @@ pub record IsFrom (table : FromTree) : Type 0 where
 
 abbrev pub IsOrderName : OrderName → Type 0
 IsOrderName (order.Name name) = IsName name
-IsOrderName (order.Position n) = (pos 0 ≤ℤ n) × (n <ℤ pos (10 ^ 18))
+IsOrderName (order.Position n) = IsUnsignedShort n
 
 abbrev pub IsOrder : OrderTree → Type 0
 IsOrder item = IsOrderName item.key

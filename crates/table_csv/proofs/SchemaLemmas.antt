@@ -11,7 +11,8 @@ use Rattle.std.specs.Char.{is_ascii_alphabetic, to_ascii_uppercase}
 use Rattle.std.specs.List.{list_all, list_any}
 use Rattle.std.specs.Str.{IsAscii, bytes_eq, chars, str_to_ascii_uppercase}
 use Rattle.prefsql_tables.specs.Names.{names_of}
-use Rattle.prefsql_tables.specs.Valid.{AllDiffer, IsName, IsSchema}
+use Rattle.prefsql_tables.specs.Valid.{AllDiffer, IsSchema}
+use Rattle.prefsql_values.specs.Limits.{IsName}
 use Rattle.prefsql_tables.specs.declared.schema.Column.{Column}
 use Rattle.table_csv.specs.Fault.{spots, when}
 use Rattle.table_csv.specs.Field.{is_text}
