@@ -1,0 +1,13 @@
+//! Tests over several crates: worked rows over a table of five cars. Nothing stands on this crate.
+#![tactic(auto)]
+
+#[cfg(test)]
+mod parts;
+#[cfg(test)]
+mod shop;
+#[cfg(test)]
+mod terms;
+#[cfg(test)]
+mod window;
+#[cfg(test)]
+mod wishes;
