@@ -7,8 +7,7 @@ use Rattle.std.specs.Str.{IsAscii, is_utf8, IsUtf8}
 use Rattle.std.specs.Str.Parse.{digits_value, digits_value_after}
 use Rattle.std.proofs.lemmas.Bool.Decides.{nat_tests}
 use Rattle.std.proofs.lemmas.List.{take_more}
-use Rattle.std.proofs.lemmas.List.Sums.{AllPass-from_list_all, list_all-from_AllPass}
-use Rattle.std.proofs.lemmas.List.Elements.{All-take}
+use Rattle.std.proofs.lemmas.List.Folds.{list_all_more}
 use Rattle.std.proofs.lemmas.Str.{IsUtf8-from_ascii, IsUtf8-from_is_utf8, IsUtf8-nil, is_utf8-from_IsUtf8}
 use Rattle.std.proofs.lemmas.Str.Parse.{IsNumeralModel, numerals_by_value, digits_value_short}
 use Rattle.std.proofs.lemmas.Str.Ascii.{IsAscii-cons, IsAscii-nil}
@@ -44,18 +43,18 @@ digits_value-push n [] d = refl
 digits_value-push n (x ∷ ds) d = digits_value-push (n * 10 + digit_value x) ds d
 
 -- the digits up to a place and the one there
-pub digits_value_more : (ds : List ℕ) (i : ℕ) → list_all is_ascii_digit ds ≡ true → i < length ds
+pub digits_value_more : (ds : List ℕ) (i : ℕ) → is_ascii_digit (get_or ds i 0) ≡ true → i < length ds
     → digits_value 10 (take (i + 1) ds) ≡ digits_value 10 (take i ds) * 10 + (get_or ds i 0 - 48)
-digits_value_more ds i digits lt =
-    rw (take_more ds i 0 lt, digits_value-push 0 (take i ds) (get_or ds i 0), digit_value_is (get_or ds i 0) (AllPass-from_list_all is_ascii_digit ds digits i 0 lt)) refl
+digits_value_more ds i digit lt =
+    rw (take_more ds i 0 lt, digits_value-push 0 (take i ds) (get_or ds i 0), digit_value_is (get_or ds i 0) digit) refl
 
-digits_take : (ds : List ℕ) (i : ℕ) → list_all is_ascii_digit ds ≡ true → list_all is_ascii_digit (take i ds) ≡ true
-digits_take ds i digits =
-    list_all-from_AllPass is_ascii_digit (take i ds) (All-take (λ d. is_ascii_digit d ≡ true) i ds (AllPass-from_list_all is_ascii_digit ds digits))
+pub all_digits_more : (ds : List ℕ) (i : ℕ) → list_all is_ascii_digit (take i ds) ≡ true → is_ascii_digit (get_or ds i 0) ≡ true → i < length ds
+    → list_all is_ascii_digit (take (i + 1) ds) ≡ true
+all_digits_more ds i all digit lt = rw (list_all_more is_ascii_digit ds i 0 lt, all, digit) refl
 
 -- the value of fewer than 18 digits has room for one more
-pub digits_value_room : (ds : List ℕ) (i : ℕ) → list_all is_ascii_digit ds ≡ true → length ds ≤ 18 → i < length ds → digits_value 10 (take i ds) < 10 ^ 17
-digits_value_room ds i digits few lt = digits_value_short decimal_digits (take i ds) 17 (digits_take ds i digits) (omega (arith, length-take i ds))
+pub digits_value_room : (ds : List ℕ) (i : ℕ) → list_all is_ascii_digit (take i ds) ≡ true → length ds ≤ 18 → i < length ds → digits_value 10 (take i ds) < 10 ^ 17
+digits_value_room ds i digits few lt = digits_value_short decimal_digits (take i ds) 17 digits (omega (arith, length-take i ds))
 
 pub digits_value_small : (ds : List ℕ) → list_all is_ascii_digit ds ≡ true → length ds ≤ 18 → digits_value 10 ds < 10 ^ 18
 digits_value_small ds digits few = digits_value_short decimal_digits ds 18 digits few

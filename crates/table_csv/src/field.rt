@@ -1,6 +1,6 @@
 //! A field of a table file as a text and as a number.
 
-ghost use Rattle.std.specs.Prelude.{◌≡◌, ◌≤◌, ◌<◌, ◌^◌, true, false, length, MatchOption, IsTrue};
+ghost use Rattle.std.specs.Prelude.{◌≡◌, ◌≤◌, ◌<◌, ◌^◌, true, false, length, MatchOption, IfSome, if◌then◌else◌};
 ghost use Rattle.std.specs.Char.{is_ascii_digit};
 ghost use Rattle.std.specs.List.{list_all};
 ghost use Rattle.std.specs.Str.Parse.{digits_value, starts_with_minus, without_leading_sign};
@@ -31,13 +31,16 @@ pub(crate) fn number_of(field: &[u8]) -> Result<i64, u16>
     ensures { result ≡ unless_faulty (number_codes field.now) (number_in field.now) }
 {
     let digits = without_sign(field);
-    if digits.is_empty() || !are_digits(digits) {
+    if digits.is_empty() {
         return Err(NO_NUMBER);
     }
     if digits.len() > MOST_DIGITS {
-        return Err(TOO_MANY_DIGITS);
+        return Err(code_of_many(digits));
     }
-    let size = value_of(digits) as i64;
+    let Some(size) = value_of(digits) else {
+        return Err(NO_NUMBER);
+    };
+    let size = size as i64;
     if is_negative(field) {
         return Ok(-size);
     }
@@ -60,22 +63,36 @@ fn without_sign(text: &[u8]) -> &[u8]
     }
 }
 
-fn are_digits(digits: &[u8]) -> bool
-    ensures { result ≡ list_all is_ascii_digit digits.now }
+fn are_digits(bytes: &[u8]) -> bool
+    ensures { result ≡ list_all is_ascii_digit bytes.now }
 {
-    digits.iter().all(|digit| digit.is_ascii_digit())
+    bytes.iter().all(|byte| byte.is_ascii_digit())
 }
 
-/// The number that these digits write.
-fn value_of(digits: &[u8]) -> u64
-    requires digits { IsTrue (list_all is_ascii_digit digits.now) }
-    requires few { length digits.now ≤ 18 }
-    ensures value { result ≡ digits_value 10 digits.now }
-    ensures small { result < 10 ^ 18 }
+/// The code of the fault of more bytes than a number may have digits.
+fn code_of_many(bytes: &[u8]) -> u16
+    ensures { result ≡ (if list_all is_ascii_digit bytes.now then 505 else 504) }
+{
+    if are_digits(bytes) {
+        TOO_MANY_DIGITS
+    } else {
+        NO_NUMBER
+    }
+}
+
+/// The number that these bytes write, where they are digits. They are gone through once.
+fn value_of(bytes: &[u8]) -> Option<u64>
+    requires few { length bytes.now ≤ 18 }
+    ensures value { MatchOption result (list_all is_ascii_digit bytes.now ≡ false)
+        (λ value. (list_all is_ascii_digit bytes.now ≡ true) × (value ≡ digits_value 10 bytes.now)) }
+    ensures small { IfSome result (λ value. value < 10 ^ 18) }
 {
     let mut value = 0;
-    for digit in digits {
-        value = value * 10 + u64::from(*digit - b'0');
+    for byte in bytes {
+        if !byte.is_ascii_digit() {
+            return None;
+        }
+        value = value * 10 + u64::from(*byte - b'0');
     }
-    value
+    Some(value)
 }
