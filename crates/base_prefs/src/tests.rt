@@ -4,7 +4,7 @@ ghost use Rattle.base_prefs.specs.Graph.{ends};
 ghost use Rattle.base_prefs.specs.Kind.{has_level, is_explicit};
 ghost use Rattle.base_prefs.specs.RankedLaws.{IsRanked};
 ghost use Rattle.base_prefs.specs.Sets.{IsGivenSet};
-ghost use Rattle.base_prefs.specs.Values.{IsLiteral};
+ghost use Rattle.prefsql_values.specs.Limits.{IsLiteralValue};
 
 use super::*;
 use order_laws::Preference;
@@ -30,7 +30,7 @@ fn set(alloc: Global, words: &[&str]) -> Result<ValueSet, Memory>
 
 // The number, written so often, and at least once.
 fn repeated(alloc: Global, number: i64, count: u32) -> Result<ValueSet, Memory>
-    requires { IsLiteral (Num number) }
+    requires { IsLiteralValue (Num number) }
     ensures { IfOk result IsGivenSet }
 {
     let mut values = List::new(alloc);
@@ -71,7 +71,7 @@ fn graph(alloc: Global, pairs: &[(&str, &str)]) -> Result<BasePref, BaseFault>
 
 fn edges(alloc: Global, pairs: &[(&str, &str)]) -> Result<List<Edge>, Memory>
     ensures count { IfOk result (λ edges. length edges ≡ length pairs.now) }
-    ensures literal { IfOk result (λ edges. All IsLiteral (ends edges)) }
+    ensures literal { IfOk result (λ edges. All IsLiteralValue (ends edges)) }
 {
     let mut edges = List::new(alloc);
     for (upper, lower) in pairs {

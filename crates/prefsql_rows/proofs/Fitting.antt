@@ -3,7 +3,7 @@ use Rattle.std.proofs.Common.{◌≡◌, ℕ, [], ◌∷◌, ◌++◌, All, sym,
 use Rattle.std.specs.Str.{chars}
 use Rattle.std.proofs.lemmas.List.Elements.{All-append}
 use Rattle.prefsql_tables.specs.Table.{Tables}
-use Rattle.prefsql_tables.specs.Valid.{IsName}
+use Rattle.prefsql_values.specs.Limits.{IsName}
 use Rattle.pref_terms.specs.declared.term.Leaf.{Leaf}
 use Rattle.pref_terms.specs.declared.term.Term.{Term, Pareto, Prior}
 use Rattle.pref_terms.specs.Terms.{leaves_of}

@@ -1,5 +1,5 @@
 use Rattle.std.proofs.Common.{ℕ, List, [], ◌∷◌, refl, subst, sym}
-use Rattle.prefsql_tables.specs.Valid.{IsName}
+use Rattle.prefsql_values.specs.Limits.{IsName}
 use Rattle.table_csv.proofs.SchemaLemmas.{name_valid}
 use Rattle.table_csv.proofs.tests.a_quoted_field_keeps_itself.Goals as goal
 
