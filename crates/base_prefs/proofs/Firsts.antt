@@ -104,3 +104,12 @@ AllPairs-firsts (v ∷ vs) i j d below within =
     AllPairs-cons ◌≢◌ v (filter (others v) (firsts vs))
     (All-weaker (λ w. others v w ≡ true) (λ w. v ≢ w) (different v) (filter (others v) (firsts vs)) (filter_passes (others v) (firsts vs)))
     (AllPairs-filter ◌≢◌ (others v) (firsts vs) (AllPairs-firsts vs)) i j d below within
+
+-- more values may only add to the first ones
+pub firsts_longer : (xs ys : List Value) → (zs : List Value) × (firsts (xs ++ ys) ≡ firsts xs ++ zs)
+firsts_longer [] ys = (firsts ys, refl)
+firsts_longer (v ∷ xs) ys =
+    let more = firsts_longer xs ys in (
+      filter (others v) more.0,
+      ap (λ us. v ∷ filter (others v) us) more.1 ∙ ap (λ us. v ∷ us) (filter-append (others v) (firsts xs) more.0),
+    )
