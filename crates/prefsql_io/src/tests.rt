@@ -4,7 +4,7 @@ use std::fs;
 use std::io::{self, ErrorKind, Read, Write};
 use std::test::Fail;
 
-// Interrupted some times, and then it gives zeros.
+// Interrupted some times, and then it reads zeros, or takes all.
 #[derive(Drop)]
 struct Interrupted {
     times: u32,
@@ -17,6 +17,20 @@ impl Read for Interrupted {
             return Err(ErrorKind::Interrupted.into());
         }
         Ok(buf.len())
+    }
+}
+
+impl Write for Interrupted {
+    fn write(&mut self, buf: &[u8]) -> io::Result<usize> {
+        if self.times > 0 {
+            self.times -= 1;
+            return Err(ErrorKind::Interrupted.into());
+        }
+        Ok(buf.len())
+    }
+
+    fn flush(&mut self) -> io::Result<()> {
+        Ok(())
     }
 }
 
@@ -69,6 +83,10 @@ fn a_std_sink_writes_and_flushes(rt: HostRuntime) {
     });
     assert_eq!(rt; sink.write(b"abc"), Ok(3));
     assert_eq!(rt; flushed.get(), 3);
+    let mut sink = StdSink::new(Interrupted { times: 100 });
+    assert_eq!(rt; sink.write(b"abc"), Ok(3));
+    let mut sink = StdSink::new(Interrupted { times: 101 });
+    assert_eq!(rt; sink.write(b"abc"), Err(Failed));
 }
 
 #[test]
