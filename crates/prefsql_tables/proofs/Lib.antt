@@ -1,13 +1,16 @@
 pub mod ArrangedLemmas
 pub mod ArrangementLemmas
+pub mod CellsLemmas
 pub mod CombosLemmas
 pub mod DistinctLemmas
 pub mod EntryLemmas
 pub mod ExampleLemmas
+pub mod KeptLemmas
 pub mod MemberLemmas
 pub mod OrderLemmas
 pub mod PairsLemmas
 pub mod PassLemmas
 pub mod PlaceLemmas
 pub mod ProductLemmas
+pub mod PutLemmas
 pub mod ValidLemmas

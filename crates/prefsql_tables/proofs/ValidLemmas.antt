@@ -57,7 +57,7 @@ AllDiffer-push names name differ new i j d before small =
     (cases_lt j (length names))
 
 -- one item more of which the same holds
-All-push : {X : Type 0} (P : X → Type 0) (xs : List X) (x : X) → All P xs → P x → All P (xs ++ x ∷ [])
+pub All-push : {X : Type 0} (P : X → Type 0) (xs : List X) (x : X) → All P xs → P x → All P (xs ++ x ∷ [])
 All-push P xs x all last = All-append P xs (x ∷ []) all one
   where
     one : All P (x ∷ [])

@@ -1,7 +1,10 @@
 pub mod Arranged
 pub mod Arrangement
+pub mod CellsData
+pub mod ColumnCells
 pub mod Combos
 pub mod Distinct
+pub mod KeptTable
 pub mod Names
 pub mod Pairs
 pub mod Product

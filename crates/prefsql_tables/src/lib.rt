@@ -2,6 +2,7 @@
 #![tactic(auto)]
 
 mod answer;
+mod column_cells;
 mod order;
 mod place;
 mod schema;
