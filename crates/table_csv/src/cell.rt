@@ -1,6 +1,6 @@
 //! A field of a row as a value.
 
-ghost use Rattle.std.specs.Prelude.{◌++◌, not};
+ghost use Rattle.std.specs.Prelude.{◌≡◌, [], ◌++◌, not, IfSome};
 ghost use Rattle.prefsql_values.specs.declared.value.Value.TheVariants as value;
 ghost use Rattle.table_csv.specs.Cell.{cell_codes, cell_value, empty_codes, empty_value};
 ghost use Rattle.table_csv.specs.Fault.{Gives, spots, unless_faulty, when};
@@ -29,6 +29,19 @@ pub(crate) fn read_cell(
     match column.domain {
         Domain::Integer => read_number(field, at_record, at_field),
         Domain::Chars => read_text(alloc, field, at_record, at_field),
+    }
+}
+
+/// The value of a field that is a number in a column of numbers. It is None for every other field, which `read_cell` reads.
+pub(crate) fn number_cell(column: &Column, field: &[u8]) -> Option<Value>
+    ensures { IfSome result (λ cell. (cell_codes column.now field.now ≡ []) × (cell_value column.now field.now ≡ cell)) }
+{
+    match column.domain {
+        Domain::Integer => match number_of(field) {
+            Ok(n) => Some(Value::Num(i128::from(n))),
+            Err(_) => None,
+        },
+        Domain::Chars => None,
     }
 }
 

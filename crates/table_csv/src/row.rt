@@ -5,7 +5,7 @@ ghost use Rattle.csv.specs.Records.{fields_of};
 ghost use Rattle.table_csv.specs.Fault.{Gives, unless_faulty};
 ghost use Rattle.table_csv.specs.Row.{row_faults, row_of};
 
-use crate::cell::read_cell;
+use crate::cell::{number_cell, read_cell};
 use crate::codes::{FIELD_COUNT, TOO_MANY_ROWS};
 use crate::fault::{TableFault, bad};
 use csv::ByteRecord;
@@ -37,7 +37,10 @@ pub(crate) fn read_row(
         let Some(field) = fields.get(place) else {
             break;
         };
-        let cell = read_cell(alloc, column, field, at_record, place as u32 + 1)?;
+        let cell = match number_cell(column, field) {
+            Some(cell) => cell,
+            None => read_cell(alloc, column, field, at_record, place as u32 + 1)?,
+        };
         cells.push(cell)?;
     }
     Ok(AnswerRow {
