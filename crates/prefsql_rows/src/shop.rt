@@ -2,7 +2,8 @@
 ghost use Rattle.std.specs.Prelude.{◌≡◌, [], ◌∷◌, false, All, IfOk, IsTrue};
 ghost use Rattle.prefsql_tables.specs.Table.{HasTable};
 ghost use Rattle.prefsql_tables.specs.Sight.{IsInSight};
-ghost use Rattle.pref_terms.specs.Fits.{LeafFits, LeavesFit, ranks_numbers};
+ghost use Rattle.base_prefs.specs.Rankable.{ranks_numbers};
+ghost use Rattle.pref_terms.specs.Fits.{LeafFits, LeavesFit};
 
 use base_prefs::{BasePref, BaseView};
 use pref_terms::{Leaf, Term};

@@ -1,17 +1,18 @@
 -- What follows from validity, and how it is kept.
-use Rattle.std.proofs.Common.{◌≡◌, ℕ, zero, suc, ◌+◌, ◌<◌, ◌^◌, ⊎_elim, List, [], ◌∷◌, ◌++◌, length, get_or, All, Contains, refl, ◌∙◌, arith, length-append}
+use Rattle.std.proofs.Common.{◌≡◌, ℕ, ℤ, zero, suc, ◌+◌, ◌<◌, ◌^◌, ⊎_elim, false, List, [], ◌∷◌, ◌++◌, length, get_or, All, Contains, refl, ◌∙◌, arith, length-append}
 use Rattle.std.proofs.lemmas.List.{get_or_append_left, get_or_default, get_or_push, map-append}
 use Rattle.std.proofs.lemmas.List.Elements.{All-append}
-use Rattle.std.proofs.lemmas.Bool.{cases_lt}
+use Rattle.std.proofs.lemmas.Bool.{both_ways, cases_lt}
 use Rattle.prefsql_values.specs.declared.value.Value.{Value}
 use Rattle.prefsql_tables.specs.declared.schema.Column.{Column}
 use Rattle.prefsql_tables.specs.declared.table.AnswerRow.{AnswerRow}
-use Rattle.prefsql_values.specs.declared.value.Value.TheVariants.{Null}
+use Rattle.prefsql_values.specs.declared.value.Domain.TheVariants.{Integer}
+use Rattle.prefsql_values.specs.declared.value.Value.TheVariants.{Num, Str, Null}
 use Rattle.prefsql_tables.specs.Names.{table_names}
 use Rattle.prefsql_tables.specs.Table.{no_table, no_row, columns_of, rows_of, cell_at, HasCell}
 use Rattle.prefsql_tables.specs.TableData.{TableData, NamedTable}
 use Rattle.prefsql_tables.specs.Valid.{IsCell, IsRow, IsTable, IsTableSet, AllDiffer}
-use Rattle.prefsql_values.specs.Limits.{IsName}
+use Rattle.prefsql_values.specs.Limits.{IsName, IsShort}
 
 -- a row has one cell for each column
 pub length-IsRow : (columns : List Column) (values : List Value) → IsRow columns values → length values ≡ length columns
@@ -36,6 +37,18 @@ pub cell_at_valid : (tables : List NamedTable) (t row column : ℕ) (c : Column)
 cell_at_valid tables t row column c valid there =
     let table = valid.all_valid t no_table there.table in
     cell_valid (columns_of tables t) (get_or (rows_of tables t) row no_row).cells column c Null (table.rows row no_row there.row_in) there.column_in
+
+-- a cell of a column that admits no NULL is not NULL
+pub never_null : (column : Column) (v : Value) → IsCell column v → column.nullable ≡ false → v ≡ Null → ⊥
+never_null column (Num n) cell no_null is = cc
+never_null column (Str s) cell no_null is = cc
+never_null column Null cell no_null is = both_ways column.nullable no_null cell
+
+-- in a column of numbers it is a number of at most eighteen digits
+pub short_number : (column : Column) (v : Value) → IsCell column v → column.nullable ≡ false → column.domain ≡ Integer → (n : ℤ) × ((v ≡ Num n) × IsShort n)
+short_number column (Num n) cell no_null integer = (n, (refl, cell.1))
+short_number column (Str s) cell no_null integer = absurd (cc)
+short_number column Null cell no_null integer = absurd (both_ways column.nullable no_null cell)
 
 -- a row and one more column with its value
 pub IsRow-push : (columns : List Column) (values : List Value) (column : Column) (value : Value) → IsRow columns values → IsCell column value → IsRow (columns ++ column ∷ []) (values ++ value ∷ [])
