@@ -1,0 +1,5 @@
+pub mod BestLaws
+pub mod CondReads
+pub mod Fitting
+pub mod Judged
+pub mod Truths
