@@ -70,14 +70,6 @@ fn color_or_dealer(alloc: Global, negate: bool, word: &str) -> Result<Cond, Memo
     Ok(Cond::OneOf(negate, color(), list))
 }
 
-// Whether the color is the name of the dealer or this one.
-fn dealer_or_color(alloc: Global, word: &str) -> Result<Cond, Memory> {
-    let mut list = List::new(alloc);
-    list.push(dealer())?;
-    list.push(text(alloc, word)?)?;
-    Ok(Cond::OneOf(false, color(), list))
-}
-
 // That the color does not lie between this word and the name of the dealer.
 fn color_outside(alloc: Global, low: &str) -> Result<Cond, Memory> {
     Ok(Cond::Between(true, color(), text(alloc, low)?, dealer()))
@@ -170,22 +162,9 @@ fn and_of_unknown(rt: HostRuntime) -> Result<(), Fail> {
 }
 
 #[test]
-fn or_of_unknown(rt: HostRuntime) -> Result<(), Fail> {
-    let alloc = rt.alloc();
-    let either = two(alloc, dealer_is(alloc, "north")?, id_is(4))?;
-    has_truths(&rt, alloc, Cond::Or(either), [True, True, False])
-}
-
-#[test]
 fn a_list_with_null(rt: HostRuntime) -> Result<(), Fail> {
     let among = color_or_dealer(rt.alloc(), false, "red")?;
     has_truths(&rt, rt.alloc(), among, [True, Unknown, True])
-}
-
-#[test]
-fn an_equal_value_after_null(rt: HostRuntime) -> Result<(), Fail> {
-    let among = dealer_or_color(rt.alloc(), "blue")?;
-    has_truths(&rt, rt.alloc(), among, [False, True, False])
 }
 
 #[test]
@@ -198,12 +177,6 @@ fn not_in_a_list_with_null(rt: HostRuntime) -> Result<(), Fail> {
 fn not_between_with_null(rt: HostRuntime) -> Result<(), Fail> {
     let outside = color_outside(rt.alloc(), "a")?;
     has_truths(&rt, rt.alloc(), outside, [True, Unknown, True])
-}
-
-#[test]
-fn below_the_bound_that_is_not_null(rt: HostRuntime) -> Result<(), Fail> {
-    let outside = color_outside(rt.alloc(), "z")?;
-    has_truths(&rt, rt.alloc(), outside, [True, True, True])
 }
 
 #[test]
@@ -222,20 +195,6 @@ fn an_empty_text_is_not_null(rt: HostRuntime) -> Result<(), Fail> {
         Cond::IsNull(true, dealer()),
         [True, False, True],
     )
-}
-
-#[test]
-fn levels_compare(rt: HostRuntime) -> Result<(), Fail> {
-    let level = Scalar::Quality(redness(rt.alloc())?);
-    let first = Cond::Compare(CompareOp::Eq, level, number(1));
-    has_truths(&rt, rt.alloc(), first, [True, False, True])
-}
-
-#[test]
-fn distances_compare(rt: HostRuntime) -> Result<(), Fail> {
-    let distance = Scalar::Quality(nearness());
-    let far = Cond::Compare(CompareOp::Gt, distance, number(3));
-    has_truths(&rt, rt.alloc(), far, [False, False, True])
 }
 
 #[test]
