@@ -29,3 +29,7 @@ module _ (tables : Tables) (row : ℕ) where
 pub cars_is_name : IsName (codes "CARS")
 unfolding chars
 cars_is_name = record { not_empty = lit≤ tt; short = lit≤ tt }
+
+pub dealers_is_name : IsName (codes "DEALERS")
+unfolding chars
+dealers_is_name = record { not_empty = lit≤ tt; short = lit≤ tt }

@@ -22,15 +22,35 @@ pub(crate) const POWER: u32 = 3;
 
 pub(crate) const DEALER: u32 = 4;
 
+/// The file of the cars.
+const CARS: &str =
+    "id INTEGER NOT NULL,color TEXT NOT NULL,price INTEGER NOT NULL,power INTEGER NOT NULL,dealer TEXT\n1,red,40000,200,north\n2,blue,38000,180,north\n3,red,42000,220,south\n4,grey,38000,180,\n5,blue,50000,150,\n";
+
 /// The set whose one table is that of the cars.
 pub(crate) fn cars(alloc: Global) -> Result<TableSet, Fail>
     ensures { IfOk result (λ tables. HasTable tables 0) }
 {
-    let file =
-        "id INTEGER NOT NULL,color TEXT NOT NULL,price INTEGER NOT NULL,power INTEGER NOT NULL,dealer TEXT\n1,red,40000,200,north\n2,blue,38000,180,north\n3,red,42000,220,south\n4,grey,38000,180,\n5,blue,50000,150,\n";
+    cars_of(alloc, CARS)
+}
+
+/// The set whose one table is called CARS and has this file.
+pub(crate) fn cars_of(alloc: Global, file: &str) -> Result<TableSet, Fail>
+    ensures { IfOk result (λ tables. HasTable tables 0) }
+{
     let mut tables = TableSet::new(alloc);
     let table = read_table(alloc, file.as_bytes())?;
     tables.add_table(Text::of(alloc, "CARS")?, table)?;
+    Ok(tables)
+}
+
+/// The set of the cars and of the dealers.
+pub(crate) fn cars_and_dealers(alloc: Global) -> Result<TableSet, Fail> {
+    let mut tables = TableSet::new(alloc);
+    let table = read_table(alloc, CARS.as_bytes())?;
+    tables.add_table(Text::of(alloc, "CARS")?, table)?;
+    let file = "name TEXT,city TEXT NOT NULL\nnorth,Ulm\nsouth,Bonn\n";
+    let table = read_table(alloc, file.as_bytes())?;
+    tables.add_table(Text::of(alloc, "DEALERS")?, table)?;
     Ok(tables)
 }
 

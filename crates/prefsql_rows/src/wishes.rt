@@ -29,10 +29,15 @@ fn one_text(alloc: Global, text: &str) -> Result<ValueSet, Memory>
     Ok(ValueSet { values })
 }
 
+/// That a text is `red` is better.
+pub(crate) fn redness(alloc: Global) -> Result<BasePref, Fail> {
+    let base = pos(alloc, one_text(alloc, "red")?)?;
+    Ok(base)
+}
+
 /// `color = 'red'`, with TRIVIAL or with REGULAR.
 pub(crate) fn red(alloc: Global, trivial: bool) -> Result<Term, Fail> {
-    let base = pos(alloc, one_text(alloc, "red")?)?;
-    Ok(leaf(1, COLOR, base, trivial))
+    Ok(leaf(1, COLOR, redness(alloc)?, trivial))
 }
 
 /// `first AND second`.
