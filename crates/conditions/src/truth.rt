@@ -2,7 +2,7 @@
 ghost use Rattle.std.specs.Prelude.{◌≡◌, ◌↔◌, ◌⊎◌, pos, Some, IsTrue, All, map};
 ghost use Rattle.prefsql_values.specs.Truth.{all_true, any_true};
 ghost use Rattle.prefsql_values.specs.declared.value.Value.{Value};
-ghost use Rattle.prefsql_values.specs.Value.{value_of, between, is_null, one_of, truth_of};
+ghost use Rattle.prefsql_values.specs.Value.{value_of, one_of};
 ghost use Rattle.prefsql_tables.specs.Sight.{sight};
 ghost use Rattle.base_prefs.specs.Kind.{IsBetter, IsJudged, level_of, distance_of};
 ghost use Rattle.conditions.specs.Fits.{CondFits, QualityFits, ScalarFits};
@@ -10,7 +10,9 @@ ghost use Rattle.conditions.specs.Meaning.{is_best, quality_of, scalar_value, tr
 
 use crate::condition::{Cond, Quality, Scalar};
 use prefsql_tables::{Combo, TableSet, cell_in_sight};
-use prefsql_values::{Cell, CompareOp, Truth, and, compares, negated_if, not, or};
+use prefsql_values::{
+    Cell, CompareOp, Truth, and, compares, is_between, is_null, negated_if, not, or, truth_of,
+};
 
 /// The value of a scalar for a combination of rows. `from` has the position in the set of each FROM table, and the
 /// combination is of the FROM tables from position `first` on.
@@ -180,27 +182,4 @@ fn is_one_of(
         }
     }
     so_far
-}
-
-/// Whether a value lies between two others, or is one of them.
-fn is_between(cell: Cell<'_>, low: Cell<'_>, high: Cell<'_>) -> Truth
-    ensures { result ≡ between (value_of cell.entry) (value_of low.entry) (value_of high.entry) }
-{
-    let above = compares(CompareOp::Ge, cell, low);
-    let below = compares(CompareOp::Le, cell, high);
-    and(above, below)
-}
-
-/// Whether a value is NULL.
-fn is_null(cell: Cell<'_>) -> bool
-    ensures { result ≡ is_null (value_of cell.entry) }
-{
-    matches!(cell, Cell::Null)
-}
-
-/// True or False.
-fn truth_of(test: bool) -> Truth
-    ensures { result ≡ truth_of test }
-{
-    if test { Truth::True } else { Truth::False }
 }

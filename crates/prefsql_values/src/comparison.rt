@@ -1,8 +1,8 @@
 ghost use Rattle.std.specs.Prelude.{◌≡◌, ◌↔◌, ◌||◌, IsTrue, IsNone};
-ghost use Rattle.prefsql_values.specs.Value.{value_of, value_eq, value_order, nulls_last, comparison, admits, is_null};
+ghost use Rattle.prefsql_values.specs.Value.{value_of, value_eq, value_order, nulls_last, comparison, between, admits, is_null};
 
 use crate::code_points::text_order;
-use crate::truth::Truth;
+use crate::truth::{Truth, and, truth_of};
 use crate::value::{Cell, CompareOp};
 use std::cmp::Ordering;
 
@@ -42,14 +42,24 @@ pub fn compares(op: CompareOp, a: Cell<'_>, b: Cell<'_>) -> Truth
 {
     match compare(a, b) {
         None => Truth::Unknown,
-        Some(ordering) => {
-            if op.admits(ordering) {
-                Truth::True
-            } else {
-                Truth::False
-            }
-        }
+        Some(ordering) => truth_of(op.admits(ordering)),
     }
+}
+
+/// Whether a value lies between two others, or is one of them, as BETWEEN asks it (ISO/IEC 9075:1992).
+pub fn is_between(cell: Cell<'_>, low: Cell<'_>, high: Cell<'_>) -> Truth
+    ensures { result ≡ between (value_of cell.entry) (value_of low.entry) (value_of high.entry) }
+{
+    let above = compares(CompareOp::Ge, cell, low);
+    let below = compares(CompareOp::Le, cell, high);
+    and(above, below)
+}
+
+/// Whether a value is NULL.
+pub fn is_null(cell: Cell<'_>) -> bool
+    ensures { result ≡ is_null (value_of cell.entry) }
+{
+    matches!(cell, Cell::Null)
 }
 
 /// Whether the two values are not distinct: both are NULL, or both are equal values.

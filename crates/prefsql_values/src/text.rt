@@ -1,4 +1,5 @@
 ghost use Rattle.std.specs.Prelude.{◌≡◌, IfOk, string_bytes};
+ghost use Rattle.std.specs.Str.{IsUtf8};
 
 use crate::memory::Memory;
 use std::alloc::Global;
@@ -32,6 +33,13 @@ impl Text {
         ensures { result.now ≡ self.now }
     {
         self.text.as_str()
+    }
+
+    /// The law that the bytes of every text are UTF-8.
+    pub fn keeps_utf8(&self)
+        ensures { IsUtf8 self.now }
+    {
+        let _characters = self.text.as_str();
     }
 
     /// An equal text, or want of memory.

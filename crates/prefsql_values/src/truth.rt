@@ -1,5 +1,6 @@
 ghost use Rattle.std.specs.Prelude.{◌≡◌};
 ghost use Rattle.prefsql_values.specs.Truth.{both_true, either_true, negated, negated_if};
+ghost use Rattle.prefsql_values.specs.Value.{truth_of};
 
 /// The truth of a condition in SQL's three-valued logic (ISO/IEC 9075:1992).
 #[derive(Clone, Copy, Debug, PartialEq, Eq)]
@@ -47,4 +48,11 @@ pub fn negated_if(negate: bool, truth: Truth) -> Truth
     ensures { result ≡ negated_if negate truth }
 {
     if negate { not(truth) } else { truth }
+}
+
+/// True where the test holds, else False.
+pub fn truth_of(test: bool) -> Truth
+    ensures { result ≡ truth_of test }
+{
+    if test { Truth::True } else { Truth::False }
 }

@@ -20,7 +20,8 @@ use Rattle.query_tree.specs.declared.preference.PrefTree.TheVariants as pref_tre
 use Rattle.query_tree.proofs.Rising.{Rises, Rises-wider, Rises-append}
 use Rattle.query_tree.proofs.CondLemmas.{IsCond-And, IsCond-Or, IsCond-Not, cond_places-And, cond_places-Or, cond_places-Not, cond_places-Compare, cond_places-Between, cond_places-OneOf, cond_places-IsNull, cond_places-Top, nesting_in-And, nesting_in-Or, nesting_in-Not, nesting_in-Compare, nesting_in-Between, nesting_in-OneOf, nesting_in-IsNull, nesting_in-Top}
 use Rattle.query_tree.proofs.PrefLemmas.{IsPref-Pareto, IsPref-Prior, pref_places-Base, pref_places-Pareto, pref_places-Prior}
-use Rattle.query_tree.specs.Nesting.{Standing, alone, in_and, in_or, after_not, wraps_and, wraps_or, wraps_not, in_parentheses, deepest, nesting_in}
+use Rattle.prefsql_values.specs.Nesting.{Standing, alone, in_and, in_or, after_not, wraps_and, wraps_or, wraps_not, in_parentheses, deepest}
+use Rattle.query_tree.specs.Nesting.{nesting_in}
 use Rattle.query_tree.specs.Places.{scalar_places, cond_places, pref_places}
 use Rattle.query_tree.specs.WellMade.{IsColumn, IsChain, IsFilled, IsScalar, IsCond, IsPref}
 use Rattle.query_grammar.specs.Forms.{Grammar, Rule, condition_rule, preference_rule, word_only, in_parens, chain, ◌⨟◌, ◌⨟>◌, ◌<⨟◌}

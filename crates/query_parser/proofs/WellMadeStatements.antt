@@ -22,7 +22,7 @@ use Rattle.query_tree.specs.declared.query.OrderName.{OrderName}
 use Rattle.query_tree.specs.declared.query.OrderTree.{OrderTree}
 use Rattle.query_tree.specs.declared.query.QueryTree.{QueryTree}
 use Rattle.query_tree.proofs.Rising.{Rises, Rises-ends, Rises-wider, Rises-append, Rises-sorted}
-use Rattle.query_tree.specs.Nesting.{alone}
+use Rattle.prefsql_values.specs.Nesting.{alone}
 use Rattle.query_tree.specs.Places.{scalar_places, cond_places, pref_places, select_places, places_if, query_places}
 use Rattle.query_tree.specs.WellMade.{IsColumn, IsOutput, IsItem, IsSelect, IsFrom, IsOrderName, IsOrder, IsCondition, IsPref, IsQuery, IsCountable, AreWellMade}
 use Rattle.prefsql_values.specs.Limits.{IsName}

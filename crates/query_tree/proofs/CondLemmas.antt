@@ -9,7 +9,8 @@ use Rattle.query_tree.specs.declared.condition.ScalarTree.{ScalarTree}
 use Rattle.query_tree.specs.declared.condition.CondTree.{CondTree, And, And', Or, Or', Not, Not', Compare, Between, OneOf, IsNull, Top, Row_of-CondTree, end_of-CondTree, more_of-CondTree, items-the_row-CondTree, items_hidden-the_row-CondTree-0, items_hidden-the_row-CondTree-1}
 use Rattle.query_tree.specs.declared.condition.CondTree.TheFolds.{the_lemmas}
 use Rattle.std.proofs.lemmas.Simd.{map-map}
-use Rattle.query_tree.specs.Nesting.{Standing, in_and, in_or, after_not, wraps_and, wraps_or, wraps_not, in_parentheses, deepest, nesting_in}
+use Rattle.prefsql_values.specs.Nesting.{Standing, in_and, in_or, after_not, wraps_and, wraps_or, wraps_not, in_parentheses, deepest}
+use Rattle.query_tree.specs.Nesting.{nesting_in}
 use Rattle.query_tree.specs.Places.{cond_places, scalar_places}
 use Rattle.query_tree.specs.WellMade.{IsChain, IsCond, AreConds, cond_count}
 
