@@ -6,11 +6,12 @@ pub mod DistinctLemmas
 pub mod EntryLemmas
 pub mod ExampleLemmas
 pub mod KeptLemmas
+pub mod ListLemmas
 pub mod MemberLemmas
 pub mod OrderLemmas
-pub mod PairsLemmas
 pub mod PassLemmas
 pub mod PlaceLemmas
 pub mod ProductLemmas
 pub mod PutLemmas
+pub mod TableAtLemmas
 pub mod ValidLemmas

@@ -1,8 +1,11 @@
 -- Products of lists.
-use Rattle.std.proofs.Common.{◌≡◌, ℕ, zero, suc, ◌+◌, ◌<◌, ◌≤◌, List, [], ◌∷◌, ◌++◌, length, get_or, map, arith, refl, sym, ap, ◌∙◌, append_assoc, length-append}
+use Rattle.std.proofs.Common.{◌≡◌, ℕ, zero, suc, ◌+◌, ◌<◌, ◌≤◌, List, [], ◌∷◌, ◌++◌, length, get_or, map, arith, refl, sym, ap, ◌∙◌, append_assoc, append-nil, length-append}
 use Rattle.std.specs.List.{flat_map, range_with_len}
 use Rattle.std.proofs.Math.Seq.{get_or-append_seam}
+use Rattle.std.proofs.lemmas.Grind.{flat_map-append}
 use Rattle.std.proofs.lemmas.List.{map-append}
+use Rattle.std.proofs.lemmas.List.Concat.{flat_map_single}
+use Rattle.std.proofs.lemmas.List.Folds.{flat_map-map}
 use Rattle.std.proofs.lemmas.Simd.{map-map}
 use Rattle.prefsql_tables.specs.Product.{product}
 use Rattle.prefsql_tables.specs.Combos.{combos_of, picked}
@@ -26,6 +29,27 @@ flat_map_by_place f d xs = flat_map_behind f d xs []
 pub map-flat_map : {X Y Z : Type 0} (g : Y → Z) (f : X → List Y) (xs : List X) → map g (flat_map f xs) ≡ flat_map (λ x. map g (f x)) xs
 map-flat_map g f [] = refl
 map-flat_map g f (x ∷ xs) = map-append g (f x) (flat_map f xs) ∙ ap (λ more. map g (f x) ++ more) (map-flat_map g f xs)
+
+pub flat_map-flat_map : {X Y Z : Type 0} (f : Y → List Z) (g : X → List Y) (xs : List X) → flat_map f (flat_map g xs) ≡ flat_map (λ x. flat_map f (g x)) xs
+flat_map-flat_map f g [] = refl
+flat_map-flat_map f g (x ∷ xs) = flat_map-append f (g x) (flat_map g xs) ∙ ap (λ more. flat_map f (g x) ++ more) (flat_map-flat_map f g xs)
+
+-- one list more at the end
+pub product-more : {X : Type 0} (xss : List (List X)) (ys : List X) → product (xss ++ ys ∷ []) ≡ flat_map (λ front. map (λ y. front ++ y ∷ []) ys) (product xss)
+product-more [] ys = flat_map_single (λ y. y ∷ []) ys ∙ sym (append-nil (map (λ y. y ∷ []) ys))
+product-more {X} (xs ∷ xss) ys =
+    let behind : List X → List (List X) = λ front. map (λ y. front ++ y ∷ []) ys in
+    let fronts : X → List (List X) = λ x. map (λ rest. x ∷ rest) (product xss) in
+    (λ j. flat_map (λ x. map (λ rest. x ∷ rest) (product-more xss ys j)) xs)
+    ∙ (λ j. flat_map (λ x. (map-flat_map (λ rest. x ∷ rest) behind (product xss)
+    ∙ (λ i. flat_map (λ front. map-map (λ rest. x ∷ rest) (λ y. front ++ y ∷ []) ys i) (product xss))
+    ∙ sym (flat_map-map behind (λ rest. x ∷ rest) (product xss))) j) xs)
+    ∙ sym (flat_map-flat_map behind fronts xs)
+
+-- the product of one list
+pub product_of_one : {X : Type 0} (xs : List X) → product (xs ∷ []) ≡ map (λ x. x ∷ []) xs
+product_of_one [] = refl
+product_of_one (x ∷ xs) = ap (λ more. (x ∷ []) ∷ more) (product_of_one xs)
 
 -- a product is what the combinations of its places name
 pub product_by_places : {X : Type 0} (d : X) (xss : List (List X)) → product xss ≡ map (picked d xss) (combos_of (map length xss))

@@ -6,7 +6,6 @@ pub mod Combos
 pub mod Distinct
 pub mod KeptTable
 pub mod Names
-pub mod Pairs
 pub mod Product
 pub mod RowOrder
 pub mod Sight

@@ -1,5 +1,5 @@
 -- What a set of tables holds at a place.
-use Rattle.std.specs.Prelude.{ℕ, ◌<◌, List, [], length, slice_index_or}
+use Rattle.std.specs.Prelude.{ℕ, ◌≡◌, ◌<◌, List, [], length, slice_index_or}
 use Rattle.prefsql_values.specs.declared.value.Value.{Value}
 use Rattle.prefsql_values.specs.declared.value.Value.TheVariants.{Null}
 use Rattle.prefsql_tables.specs.declared.schema.Column.{Column}
@@ -39,3 +39,9 @@ pub record HasCell (tables : Tables) (t row column : ℕ) : Type 0 where
   pub table : t < length tables
   pub row_in : row < length (rows_of tables t)
   pub column_in : column < length (columns_of tables t)
+
+-- the table at the position has this name and these columns
+pub record IsTableAt (tables : Tables) (index : ℕ) (called : List ℕ) (schema : List Column) : Type 0 where
+  pub there : index < length tables
+  pub name : (table_at tables index).name ≡ called
+  pub columns : columns_of tables index ≡ schema

@@ -1,4 +1,4 @@
-ghost use Rattle.std.specs.Prelude.{◌≡◌, ◌≤◌, ◌<◌, length, IfOk, IfSome};
+ghost use Rattle.std.specs.Prelude.{◌≡◌, ◌≤◌, ◌<◌, ◌↔◌, length, IfOk, IfSome, IsTrue};
 ghost use Rattle.prefsql_tables.specs.Valid.{AllDiffer};
 ghost use Rattle.prefsql_tables.specs.Names.{IsPlaceAmong, names_of, column_place};
 
@@ -20,6 +20,15 @@ pub struct Schema {
 }
 
 impl Column {
+    /// Whether both have the same name, hold the same, and admit NULL alike.
+    fn is_same(&self, other: &Column) -> bool
+        ensures { IsTrue result ↔ (self.now ≡ other.now) }
+    {
+        self.name.as_str() == other.name.as_str()
+            && self.domain == other.domain
+            && self.nullable == other.nullable
+    }
+
     /// An equal column, or want of memory.
     pub(crate) fn copy(&self, alloc: Global) -> Result<Column, Memory>
         ensures { IfOk result (λ column. column ≡ self.now) }
@@ -46,6 +55,13 @@ impl Schema {
         }
     }
 
+    /// Whether both have the same columns in the same order.
+    pub(crate) fn is_same(&self, other: &Schema) -> bool
+        ensures { IsTrue result ↔ (self.now.columns ≡ other.now.columns) }
+    {
+        are_same(self.columns.as_slice(), other.columns.as_slice())
+    }
+
     /// An equal schema, or want of memory.
     pub fn copy(&self, alloc: Global) -> Result<Schema, Memory>
         ensures { IfOk result (λ schema. schema ≡ self.now) }
@@ -56,6 +72,20 @@ impl Schema {
         }
         Ok(Schema { columns })
     }
+}
+
+fn are_same(columns: &[Column], others: &[Column]) -> bool
+    ensures { IsTrue result ↔ (columns.now ≡ others.now) }
+{
+    if columns.len() != others.len() {
+        return false;
+    }
+    for (place, column) in columns.iter().enumerate() {
+        if !column.is_same(&others[place]) {
+            return false;
+        }
+    }
+    true
 }
 
 /// The position of the first column with this name.

@@ -1,7 +1,7 @@
-ghost use Rattle.std.specs.Prelude.{◌≡◌, ◌<◌, ◌^◌, ◌↔◌, [], ◌∷◌, ◌++◌, length, OnOk, OnErr, IsErrOf, Contains};
+ghost use Rattle.std.specs.Prelude.{◌≡◌, ◌<◌, ◌^◌, ◌↔◌, [], ◌∷◌, ◌++◌, length, OnOk, OnErr, IsErrOf, IsTrue, Contains};
 ghost use Rattle.prefsql_values.specs.Value.{value_of};
 ghost use Rattle.prefsql_tables.specs.Names.{IsPlaceAmong, table_names, table_place};
-ghost use Rattle.prefsql_tables.specs.Table.{HasTable, HasCell, table_at, columns_of, rows_of, cell_at};
+ghost use Rattle.prefsql_tables.specs.Table.{HasTable, HasCell, IsTableAt, table_at, columns_of, rows_of, cell_at};
 ghost use Rattle.prefsql_tables.specs.Valid.{IsTable, IsTableSet};
 ghost use Rattle.prefsql_values.specs.Limits.{IsName};
 
@@ -81,6 +81,17 @@ impl TableSet {
         match self.tables.get_index_of(name) {
             Some(place) => Some(place as u32),
             None => None,
+        }
+    }
+
+    /// Whether the table at this position, from 0, has this name and these columns in their order.
+    pub fn has_table_at(&self, index: u32, name: &str, schema: &Schema) -> bool
+        ensures { IsTrue result ↔ IsTableAt self.now index name.now schema.now.columns }
+    {
+        self.keeps_limits();
+        match self.find(name) {
+            Some(place) => place == index && self.schema(place).is_same(schema),
+            None => false,
         }
     }
 
