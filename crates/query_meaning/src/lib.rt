@@ -6,10 +6,12 @@ mod block;
 mod fitting;
 mod plain;
 mod rows;
+mod valid;
 
 pub use block::{Block, FromTable, Output};
 pub use plain::{has_best_rows, plain_answer};
 pub use rows::{PlainRow, lowest_rows};
+pub use valid::numbers_tell_leaves;
 
 #[cfg(test)]
 mod tests;
