@@ -25,7 +25,8 @@ pub enum ReadError {
 const CHUNK: usize = 4096;
 
 /// Gives all that is left, at most `limit` bytes. `TooLong` comes after `limit + 1` bytes were taken. After each refusal
-/// what is left is an end of what was left before.
+/// what is left is an end of what was left before. After the first read that failed no other is tried, so that the
+/// source's count of faults is as it was unless the answer is `Failed`.
 pub fn read_to_end<S: Source>(
     alloc: Global,
     source: &mut S,
@@ -38,6 +39,7 @@ pub fn read_to_end<S: Source>(
     ensures refused { TakesFront (S.left source.old) (S.left source.new) }
     ensures too_long { IsErrOf result ReadError.TooLong → TakesPast (S.left source.old) (S.left source.new) limit }
     ensures cause { HasCause (S.faults source.old) (S.faults source.new) (IsErrOf result ReadError.Failed) }
+    ensures kept { (IsErrOf result ReadError.Failed → ⊥) → S.faults source.new ≡ S.faults source.old }
 {
     let mut bytes = Vec::new(alloc);
     let mut chunk = [0; CHUNK];

@@ -33,14 +33,15 @@ pub trait Shelf {
     ghost faults: { Self → ℕ };
 
     /// The bytes of the file at a path, at most `limit` of them. A file with more bytes is `TooLong`. A path that is not
-    /// held is `Failed`.
+    /// held is `Failed`. A load that failed raised the count of faults, which any other answer leaves as it was.
     fn load(&mut self, alloc: Global, path: &str, limit: usize) -> Result<Vec<u8>, LoadError>
         requires { limit < 2 ^ 64 - 1 }
         ensures bound { IfOk result (λ loaded. vec_len loaded ≤ limit) }
         ensures bytes { LoadTells (files self.old) path.now limit result }
         ensures same { (files self.new ≡ files self.old) × (sure self.new ≡ sure self.old) }
         ensures held { IsTrue (sure self.old) → IsHeld (files self.old) path.now → IsErrOf result LoadError.Failed → ⊥ }
-        ensures cause { HasCause (faults self.old) (faults self.new) (IsErrOf result LoadError.Failed) };
+        ensures cause { HasCause (faults self.old) (faults self.new) (IsErrOf result LoadError.Failed) }
+        ensures kept { (IsErrOf result LoadError.Failed → ⊥) → faults self.new ≡ faults self.old };
 
     // a shelf that does not tell its files is not sure
     ghost sure_tells: { (s : Self) → IsTrue (sure s) → IsSome (files s) };

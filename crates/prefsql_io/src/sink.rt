@@ -1,4 +1,4 @@
-ghost use Rattle.std.specs.Prelude.{◌≡◌, ℕ, ◌<◌, List, Option, length, IsErr};
+ghost use Rattle.std.specs.Prelude.{◌≡◌, ℕ, ◌<◌, List, Option, length, IsErr, OnOk};
 ghost use Rattle.std.specs.Io.KnownBytes.{WriteAppends};
 ghost use Rattle.prefsql_io.specs.Counts.{HasCause};
 ghost use Rattle.prefsql_io.specs.Streams.{WritesSome};
@@ -15,10 +15,11 @@ pub trait Sink {
     ghost faults: { Self → ℕ };
 
     /// Appends a front of a piece that is not empty, and says how many bytes, at least 1. A write that failed appended
-    /// none. It takes no memory.
+    /// none and raised the count of faults, which any other leaves as it was. It takes no memory.
     fn write(&mut self, bytes: &[u8]) -> Result<usize, Failed>
         requires { 0 < length bytes.now }
         ensures bound { WritesSome result bytes.now }
         ensures bytes { WriteAppends (written self.old) (written self.new) result bytes.now }
-        ensures cause { HasCause (faults self.old) (faults self.new) (IsErr result) };
+        ensures cause { HasCause (faults self.old) (faults self.new) (IsErr result) }
+        ensures kept { OnOk result (faults self.new ≡ faults self.old) };
 }

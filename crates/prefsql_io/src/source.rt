@@ -1,4 +1,4 @@
-ghost use Rattle.std.specs.Prelude.{◌≡◌, ℕ, ◌<◌, List, Option, length, IsErr};
+ghost use Rattle.std.specs.Prelude.{◌≡◌, ℕ, ◌<◌, List, Option, length, IsErr, OnOk};
 ghost use Rattle.std.specs.Io.{ReadsAtMost};
 ghost use Rattle.std.specs.Io.KnownBytes.{ReadConsumes};
 ghost use Rattle.prefsql_io.specs.Counts.{HasCause};
@@ -15,10 +15,12 @@ pub trait Source {
     ghost faults: { Self → ℕ };
 
     /// Moves bytes from the front of what is left into the front of a buffer that is not empty, and says how many.
-    /// 0 is the end. A read that failed moved none. It takes no memory.
+    /// 0 is the end. A read that failed moved none and raised the count of faults, which any other leaves as it was. It
+    /// takes no memory.
     fn read(&mut self, into: &mut [u8]) -> Result<usize, Failed>
         requires { 0 < length into.old }
         ensures bound { ReadsAtMost result into.new }
         ensures bytes { ReadConsumes (left self.old) (left self.new) result into.new }
-        ensures cause { HasCause (faults self.old) (faults self.new) (IsErr result) };
+        ensures cause { HasCause (faults self.old) (faults self.new) (IsErr result) }
+        ensures kept { OnOk result (faults self.new ≡ faults self.old) };
 }

@@ -104,16 +104,20 @@ fn a_file_shelf_loads_files(rt: HostRuntime) -> Result<(), Fail> {
 }
 
 #[test]
-fn a_memory_sink_is_full(rt: HostRuntime) -> Result<(), Fail> {
+fn a_memory_sink_is_full_or_fails(rt: HostRuntime) -> Result<(), Fail> {
     let mut sink = MemorySink::new(rt.alloc(), 5, 3, Vec::new(rt.alloc()))?;
     assert_eq!(rt; write_all(&mut sink, b"hell"), Ok(()));
     assert_eq!(rt; write_all(&mut sink, b"o!"), Err(Failed));
     assert_eq!(rt; sink.written(), b"hello".as_slice());
+    // the second write is listed, and none is tried after it
+    let mut sink = MemorySink::new(rt.alloc(), 9, 3, [2].to_vec(rt.alloc())?)?;
+    assert_eq!(rt; write_all(&mut sink, b"hello!"), Err(Failed));
+    assert_eq!(rt; sink.written(), b"hel".as_slice());
     Ok(())
 }
 
 #[test]
-fn a_memory_source_fails_once(rt: HostRuntime) -> Result<(), Fail> {
+fn a_memory_source_fails_where_listed(rt: HostRuntime) -> Result<(), Fail> {
     let alloc = rt.alloc();
     let mut source = MemorySource::new(b"abcdef".to_vec(alloc)?, 4, [1].to_vec(alloc)?);
     let mut into = [0; 1];
@@ -122,6 +126,13 @@ fn a_memory_source_fails_once(rt: HostRuntime) -> Result<(), Fail> {
     assert_eq!(rt; all.as_slice(), b"abcdef".as_slice());
     let mut source = MemorySource::new(b"abcdef".to_vec(alloc)?, 4, Vec::new(alloc));
     assert!(rt; matches!(read_to_end(alloc, &mut source, 5), Err(ReadError::TooLong)));
+    // the second read is listed, and none is tried after it
+    let mut source = MemorySource::new(b"abcdef".to_vec(alloc)?, 4, [2].to_vec(alloc)?);
+    assert!(rt; matches!(read_to_end(alloc, &mut source, 6), Err(ReadError::Failed)));
+    assert_eq!(rt;
+        read_to_end(alloc, &mut source, 6)?.as_slice(),
+        b"ef".as_slice()
+    );
     Ok(())
 }
 

@@ -120,6 +120,7 @@ impl Shelf for MemoryShelf {
         ensures same { (Some self.new.files ≡ Some self.old.files) × (is_nil self.new.calls.failing ≡ is_nil self.old.calls.failing) }
         ensures held { IsTrue (is_nil self.old.calls.failing) → IsHeld (Some self.old.files) path.now → IsErrOf result LoadError.Failed → ⊥ }
         ensures cause { HasCause self.old.calls.faults self.new.calls.faults (IsErrOf result LoadError.Failed) }
+        ensures kept { (IsErrOf result LoadError.Failed → ⊥) → self.new.calls.faults ≡ self.old.calls.faults }
         ensures exact { MemoryLoads self.old self.new path.now result }
     {
         let listed = self.calls.is_next_listed();

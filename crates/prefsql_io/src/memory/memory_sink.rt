@@ -1,4 +1,4 @@
-ghost use Rattle.std.specs.Prelude.{◌≡◌, ℕ, ◌≤◌, ◌<◌, [], Some, length, IsErr, IfOk, vec_len, vec_capacity};
+ghost use Rattle.std.specs.Prelude.{◌≡◌, ℕ, ◌≤◌, ◌<◌, [], Some, length, IsErr, IfOk, OnOk, vec_len, vec_capacity};
 ghost use Rattle.std.specs.Io.KnownBytes.{WriteAppends};
 ghost use Rattle.prefsql_io.specs.Counts.{HasCause};
 ghost use Rattle.prefsql_io.specs.Streams.{WritesSome};
@@ -68,6 +68,7 @@ impl Sink for MemorySink {
         ensures bound { WritesSome result bytes.now }
         ensures bytes { WriteAppends (Some self.old.written) (Some self.new.written) result bytes.now }
         ensures cause { HasCause self.old.calls.faults self.new.calls.faults (IsErr result) }
+        ensures kept { OnOk result (self.new.calls.faults ≡ self.old.calls.faults) }
         ensures exact { MemoryWrites self.old self.new bytes.now result }
     {
         let failed = self.calls.is_next_listed() || self.bytes.len() >= self.room;

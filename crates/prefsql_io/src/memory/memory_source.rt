@@ -1,4 +1,4 @@
-ghost use Rattle.std.specs.Prelude.{◌≡◌, ℕ, ◌≤◌, ◌<◌, Some, length, drop, IsErr};
+ghost use Rattle.std.specs.Prelude.{◌≡◌, ℕ, ◌≤◌, ◌<◌, Some, length, drop, IsErr, OnOk};
 ghost use Rattle.std.specs.Io.{ReadsAtMost};
 ghost use Rattle.std.specs.Io.KnownBytes.{ReadConsumes};
 ghost use Rattle.prefsql_io.specs.Counts.{HasCause};
@@ -54,6 +54,7 @@ impl Source for MemorySource {
         ensures bound { ReadsAtMost result into.new }
         ensures bytes { ReadConsumes (Some self.old.left) (Some self.new.left) result into.new }
         ensures cause { HasCause self.old.calls.faults self.new.calls.faults (IsErr result) }
+        ensures kept { OnOk result (self.new.calls.faults ≡ self.old.calls.faults) }
         ensures exact { MemoryReads self.old self.new (length into.old) result }
     {
         let failed = self.calls.is_next_listed();

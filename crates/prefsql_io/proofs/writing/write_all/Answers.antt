@@ -1,4 +1,4 @@
-use Rattle.std.proofs.Common.{arith}
+use Rattle.std.proofs.Common.{arith, ◌∙◌}
 use Rattle.std.proofs.KnownBytes.{Appends-trans}
 use Rattle.std.proofs.Math.Seq.{take-add}
 use Rattle.std.proofs.lemmas.List.{take_rest}
@@ -9,5 +9,5 @@ pub loop-at-preserved : goal.loop-at-preserved
 loop-at-preserved g c = record {
   within = grind (arith, common_steps);
   appended = rw take-add (Appends-trans _ _ _ _ _ c.loop-at.invariant.appended (simp take_rest at c.in_ok-at.ensures.bytes));
-  later = omega (arith, c.in_ok-at.ensures.cause.later);
+  kept = c.in_ok-at.ensures.kept ∙ c.loop-at.invariant.kept;
 }
