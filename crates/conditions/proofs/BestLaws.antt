@@ -37,7 +37,7 @@ no_below : (low up n : ℤ) → pos 0 ≤ℤ distance_to low up n
 no_below low up n = grind (arith, ints)
 
 -- no key is smaller
-least_key : (kind : Kind) (v w : Value) → is_best (level_of kind v) (distance_of kind v) ≡ true → key_of kind w <ℤ key_of kind v → ⊥
+pub least_key : (kind : Kind) (v w : Value) → is_best (level_of kind v) (distance_of kind v) ≡ true → key_of kind w <ℤ key_of kind v → ⊥
 least_key (Pos s) v w = below_one _ _ (positive (is_in s.values w) 1 2 (omega arith) (omega arith))
 least_key (Neg s) v w = below_one _ _ (positive (is_in s.values w) 2 1 (omega arith) (omega arith))
 least_key (PosPos s t) v w = below_one _ _ (positive (is_in s.values w) 1 _ (omega arith) (positive (is_in t.values w) 2 3 (omega arith) (omega arith)))

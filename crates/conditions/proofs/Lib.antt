@@ -1,5 +1,7 @@
 pub mod BestLaws
+pub mod CondInduction
 pub mod CondReads
-pub mod Fitting
 pub mod Judged
+pub mod PlaceReads
+pub mod ReadLaws
 pub mod Truths
