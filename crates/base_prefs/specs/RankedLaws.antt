@@ -10,7 +10,7 @@ use Rattle.prefsql_values.specs.Value.{value_eq}
 use Rattle.prefsql_values.proofs.ValueEq.{value_eq-Decides, value_eq-equivalence}
 use Rattle.order_laws.specs.Lawful.{IsLawful, IsLawfulWhere, item}
 use Rattle.order_laws.specs.ByKey.{lawful_by_key}
-use Rattle.order_laws.specs.Combine.{lawful_on}
+use Rattle.order_laws.specs.CombineLaws.{lawful_on}
 use Rattle.base_prefs.specs.declared.kind.Kind.{Kind}
 use Rattle.base_prefs.specs.declared.kind.Kind.TheVariants.{Explicit}
 use Rattle.base_prefs.specs.Kind.{better_of, same_of, key_of, key_order, is_explicit, IsJudged}

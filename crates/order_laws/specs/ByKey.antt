@@ -8,7 +8,7 @@ use Rattle.std.proofs.Common.{sym, ◌∙◌, ap, refl}
 use Rattle.std.proofs.lemmas.Bool.{false_from_ne_true}
 use Rattle.std.proofs.lemmas.Cmp.{on_total, on_equiv, eq_by_cmp_equiv, tied_itself, alike_right}
 use Rattle.order_laws.specs.Lawful.{IsLawful, IsLawfulWhere, item}
-use Rattle.order_laws.specs.Combine.{lawful_on}
+use Rattle.order_laws.specs.CombineLaws.{lawful_on}
 
 is_lt-true : (o : Ordering) → is_lt o ≡ true → o ≡ Less
 is_lt-true Less h = refl

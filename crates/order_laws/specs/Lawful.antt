@@ -1,5 +1,6 @@
--- What a preference is: a strict partial order of its items (Kießling, VLDB 2002) with an equivalence that it respects
--- (substitutable values), and with keys that are smaller where an item is better, which is this project's own.
+-- What a preference is: a strict partial order of its items (Kießling, VLDB 2002) with an equivalence
+-- that it respects (substitutable values), and with keys that are smaller where an item is better,
+-- which is this project's own.
 use Rattle.std.specs.Prelude.{◌≡◌, Bool, true, false}
 use Rattle.std.specs.Cmp.{IsTotalOrder, IsEquivalence}
 use Rattle.std.specs.Ordering.{on}
@@ -7,7 +8,8 @@ use Rattle.std.specs.declared.cmp.Ordering.{Ordering}
 use Rattle.std.specs.declared.cmp.Ordering.TheVariants.{Less, Equal}
 
 -- the laws of a preference, of all items of a type
-pub record IsLawful {X : Type 0} (better same : X → X → Bool) (key_cmp : X → X → Ordering) : Type 0 where
+pub record IsLawful {X : Type 0} (better same : X → X → Bool) (key_cmp : X → X → Ordering)
+    : Type 0 where
   pub irreflexive : (x : X) → better x x ≡ false
   pub transitive : (x y z : X) → better x y ≡ true → better y z ≡ true → better x z ≡ true
   pub equivalence : IsEquivalence same
@@ -29,5 +31,9 @@ abbrev pub item : {X : Type 0} {valid : X → Type 0} → Valid valid → X
 item v = v.0
 
 -- the laws hold of the items that are valid
-pub record IsLawfulWhere {X : Type 0} (valid : X → Type 0) (better same : X → X → Bool) (key_cmp : X → X → Ordering) : Type 0 where
-  pub among_valid : IsLawful (on (item {X = X} {valid = valid}) better) (on (item {X = X} {valid = valid}) same) (on (item {X = X} {valid = valid}) key_cmp)
+pub record IsLawfulWhere {X : Type 0} (valid : X → Type 0) (better same : X → X → Bool)
+    (key_cmp : X → X → Ordering) : Type 0 where
+  pub among_valid : IsLawful
+      (on (item {X = X} {valid = valid}) better)
+      (on (item {X = X} {valid = valid}) same)
+      (on (item {X = X} {valid = valid}) key_cmp)

@@ -1,6 +1,7 @@
 ghost use Rattle.std.specs.Prelude.{◌≡◌, ℕ, ◌+◌, ◌<◌};
 ghost use Rattle.std.specs.Ordering.{then_cmp, flip_args, eq_of_both};
-ghost use Rattle.order_laws.specs.Combine.{pareto_better, prior_better, flip_lawful_where, pareto_lawful_where, prior_lawful_where, sum_positive};
+ghost use Rattle.order_laws.specs.Combine.{pareto_better, prior_better};
+ghost use Rattle.order_laws.specs.CombineLaws.{flip_lawful_where, pareto_lawful_where, prior_lawful_where, sum_positive};
 
 use crate::preference::Preference;
 use prefsql_values::Steps;

@@ -1,7 +1,7 @@
-//! Three laws of the best items of a list. Their calls do nothing: what each says is its contract. The best items of a list
+//! Four laws of the best items of a list. Their calls do nothing: what each says is its contract. The best items of a list
 //! are those that no item of it is better than, in their order.
 ghost use Rattle.std.specs.Prelude.{◌≡◌, Bool, All, filter};
-ghost use Rattle.order_laws.specs.Best.{best, IsNarrowerAmong, IsKeptUpwardsAmong, RanksWhatIsBetterAmong};
+ghost use Rattle.order_laws.specs.Best.{best, IsNarrowerAmong, IsKeptUpwardsAmong, KeepsBestAmong, RanksWhatIsBetterAmong};
 ghost use Rattle.order_laws.specs.Combine.{prior_better};
 
 use crate::preference::Preference;
@@ -38,6 +38,13 @@ pub fn filter_law<P: Preference, K: Keep<Item = P::Item>>(p: &P, keep: &K, items
     requires upwards { IsKeptUpwardsAmong items.now (P.better p.now) (K.keeps keep.now) }
     ensures { filter (K.keeps keep.now) (best (P.better p.now) items.now)
         ≡ best (P.better p.now) (filter (K.keeps keep.now) items.now) }
+{}
+
+/// Where each best item is kept, the best of the kept items are the best of all. So what is not kept may be dropped first.
+pub fn prefilter_law<P: Preference, K: Keep<Item = P::Item>>(p: &P, keep: &K, items: &[P::Item])
+    requires valid { All (P.valid p.now) items.now }
+    requires best_kept { KeepsBestAmong items.now (P.better p.now) (K.keeps keep.now) }
+    ensures { best (P.better p.now) (filter (K.keeps keep.now) items.now) ≡ best (P.better p.now) items.now }
 {}
 
 /// Where `p` ranks what `q` tells apart (one of the two is better by `p`, or they are the same), the best by `p` before `q`

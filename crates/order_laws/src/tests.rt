@@ -1,9 +1,12 @@
-ghost use Rattle.std.specs.Prelude.{◌≡◌, ◌+◌, ◌<◌};
+ghost use Rattle.std.specs.Prelude.{◌≡◌, ◌≤◌, ◌+◌, ◌<◌, filter, nat_le, Any};
 ghost use Rattle.std.specs.Ordering.{on, is_lt, is_eq, nat_cmp};
 ghost use Rattle.std.proofs.lemmas.Cmp.{nat_cmp_total};
+ghost use Rattle.order_laws.specs.Best.{best};
+ghost use Rattle.order_laws.specs.Combine.{prior_better};
 ghost use Rattle.order_laws.specs.ByKey.{lawful_by_key_alone};
-ghost use Rattle.order_laws.specs.Combine.{one_positive};
+ghost use Rattle.order_laws.specs.CombineLaws.{one_positive};
 
+use super::laws::{Keep, cascade_law, filter_law, narrow_law, prefilter_law};
 use super::*;
 use prefsql_values::Steps;
 use std::cmp::Ordering;
@@ -181,4 +184,68 @@ fn parts_and_keys(rt: HostRuntime) {
             "{across} {up}"
         );
     }
+}
+
+/// Points at most so far up.
+#[derive(Drop)]
+struct AtMost {
+    limit: u32,
+}
+
+impl Keep for AtMost {
+    type Item = Point;
+
+    ghost valid = { λ _ _. Unit {0} };
+
+    ghost keeps = { λ keep x. nat_le x.up keep.limit };
+
+    fn keeps(&self, item: &Point) -> bool {
+        item.up <= self.limit
+    }
+}
+
+/// What is better across is better by across before up.
+fn narrowed(items: &[Point])
+    ensures { best (prior_better (λ x y. is_lt (nat_cmp x.across y.across)) (λ x y. is_eq (nat_cmp x.across y.across)) (λ x y. is_lt (nat_cmp x.up y.up))) (best (λ x y. is_lt (nat_cmp x.across y.across)) items.now)
+        ≡ best (prior_better (λ x y. is_lt (nat_cmp x.across y.across)) (λ x y. is_eq (nat_cmp x.across y.across)) (λ x y. is_lt (nat_cmp x.up y.up))) items.now }
+{
+    let prior = Prior {
+        first: ByAcross,
+        second: ByUp,
+    };
+    narrow_law(&ByAcross, &prior, items)
+}
+
+/// What is less far up than a kept point is kept.
+fn filtered(items: &[Point], limit: u32)
+    ensures { filter (λ x. nat_le x.up limit) (best (λ x y. is_lt (nat_cmp x.up y.up)) items.now)
+        ≡ best (λ x y. is_lt (nat_cmp x.up y.up)) (filter (λ x. nat_le x.up limit) items.now) }
+{
+    filter_law(&ByUp, &AtMost { limit }, items)
+}
+
+/// Where a point is kept, each best one is.
+fn prefiltered(items: &[Point], limit: u32)
+    requires some { Any (λ x. x.up ≤ limit) items.now }
+    ensures { best (λ x y. is_lt (nat_cmp x.up y.up)) (filter (λ x. nat_le x.up limit) items.now)
+        ≡ best (λ x y. is_lt (nat_cmp x.up y.up)) items.now }
+{
+    prefilter_law(&ByUp, &AtMost { limit }, items)
+}
+
+/// By across any two points are ranked.
+fn cascaded(items: &[Point])
+    ensures { best (prior_better (λ x y. is_lt (nat_cmp x.across y.across)) (λ x y. is_eq (nat_cmp x.across y.across)) (λ x y. is_lt (nat_cmp x.up y.up))) items.now
+        ≡ best (λ x y. is_lt (nat_cmp x.up y.up)) (best (λ x y. is_lt (nat_cmp x.across y.across)) items.now) }
+{
+    cascade_law(&ByAcross, &ByUp, items)
+}
+
+#[test]
+fn laws_of_points(_rt: HostRuntime) {
+    let points = [Point { across: 1, up: 3 }, Point { across: 2, up: 2 }];
+    narrowed(&points);
+    filtered(&points, 2);
+    prefiltered(&points, 2);
+    cascaded(&points);
 }

@@ -11,7 +11,8 @@ use Rattle.prefsql_tables.specs.declared.place.Combo.{Combo}
 use Rattle.prefsql_tables.specs.Table.{Tables}
 use Rattle.prefsql_tables.specs.Sight.{Sight}
 use Rattle.order_laws.specs.Lawful.{IsLawful, IsLawfulWhere}
-use Rattle.order_laws.specs.Combine.{lawful_on, grouped_lawful}
+use Rattle.order_laws.specs.CombineLaws.{lawful_on}
+use Rattle.order_laws.proofs.Grouped.{grouped_lawful}
 use Rattle.pref_terms.specs.declared.term.Term.{Term}
 use Rattle.pref_terms.specs.Terms.{leaves_of, key_order, is_same_group, grouped_order, shown}
 use Rattle.pref_terms.specs.Fits.{LeafFits, TermFits, IsTrivialIfExplicit}

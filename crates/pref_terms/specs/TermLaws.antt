@@ -6,7 +6,7 @@ use Rattle.std.proofs.lemmas.Cmp.{on_total, lists_total, int_cmp_total}
 use Rattle.std.proofs.lemmas.List.Elements.{All-nil, All-cons, All-head, All-tail}
 use Rattle.prefsql_tables.specs.Sight.{Sight}
 use Rattle.order_laws.specs.Lawful.{IsLawful}
-use Rattle.order_laws.specs.Combine.{lawful_on, pareto_lawful, prior_lawful}
+use Rattle.order_laws.specs.CombineLaws.{lawful_on, pareto_lawful, prior_lawful}
 use Rattle.base_prefs.specs.RankedLaws.{lawful_of}
 use Rattle.pref_terms.specs.declared.term.Leaf.{Leaf}
 use Rattle.pref_terms.specs.declared.term.Term.{Term, Pareto, Prior}
