@@ -10,7 +10,7 @@ use Rattle.base_prefs.specs.declared.kind.Kind.{Kind}
 use Rattle.base_prefs.specs.declared.kind.Kind.TheVariants.{Pos, Neg, PosPos, PosNeg, Layered, Explicit, Around, Between, Lowest, Highest}
 use Rattle.base_prefs.specs.ExplicitLaws.{greatest_number}
 use Rattle.base_prefs.specs.Graph.{graph_values, graph_height, graph_level, greatest, is_above}
-use Rattle.base_prefs.specs.GraphLaws.{height_is_longest}
+use Rattle.base_prefs.proofs.Paths.{height_is_longest}
 use Rattle.base_prefs.specs.Kind.{level_of, layer_of}
 use Rattle.base_prefs.specs.KindLimits.{IsSound}
 use Rattle.base_prefs.specs.Level.{StandsAt, IsOther, IsLayer, IsLevelWithin, IsGreatestLevel, IsGraphLevel, IsLevel}

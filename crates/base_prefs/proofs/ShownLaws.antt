@@ -8,12 +8,13 @@ use Rattle.base_prefs.specs.declared.edge.ValueSet.{ValueSet}
 use Rattle.base_prefs.specs.declared.fault.BaseFault.{BaseFault}
 use Rattle.base_prefs.specs.declared.kind.Kind.{Kind}
 use Rattle.base_prefs.specs.declared.kind.Kind.TheVariants.{Pos, Neg, PosPos, PosNeg, Layered, Explicit, Around, Between, Lowest, Highest}
+use Rattle.base_prefs.specs.declared.view.BaseView.{BaseView}
 use Rattle.base_prefs.specs.declared.view.BaseView.TheVariants as view
 use Rattle.base_prefs.specs.Graph.{ends, graph_values}
 use Rattle.base_prefs.specs.Kind.{edges_of, has_level, is_explicit, IsJudged, IsWithinBound}
 use Rattle.base_prefs.specs.Outcome.{IsExplicitOf}
 use Rattle.prefsql_values.specs.Limits.{IsLiteralValue}
-use Rattle.base_prefs.specs.View.{IsViewOf}
+use Rattle.base_prefs.specs.View.{IsViewOf, IsKindOf}
 use Rattle.base_prefs.proofs.Closing.{ends_push}
 
 no_text_is_null : (s : List ℕ) → Str s ≡ Null → ⊥
@@ -47,6 +48,29 @@ judged_number kind n bound = no_number_is_null n
 pub explicit_shown : (kind : Kind) (values : Bor (List Value)) → IsViewOf (view.Explicit values) kind → (is_explicit kind ≡ true) × (values.now ≡ graph_values (edges_of kind))
 explicit_shown (Explicit g) values shown = (refl, shown)
 explicit_shown kind values shown = absurd shown
+
+-- this view, so this kind
+pub kind_shown : (shown : BaseView) (kind : Kind) → IsViewOf shown kind → IsKindOf shown kind
+kind_shown (view.Pos values) (Pos s) is = λ i. Pos (record { values = sym is i })
+kind_shown (view.Neg values) (Neg s) is = λ i. Neg (record { values = sym is i })
+kind_shown (view.PosPos first second) (PosPos s t) is = λ i. PosPos (record { values = sym is.0 i }) (record { values = sym is.1 i })
+kind_shown (view.PosNeg good bad) (PosNeg s t) is = λ i. PosNeg (record { values = sym is.0 i }) (record { values = sym is.1 i })
+kind_shown (view.Layered before after) (Layered early late) is = λ i. Layered (sym is.0 i) (sym is.1 i)
+kind_shown (view.Explicit values) (Explicit g) is = (g, refl, is)
+kind_shown (view.Around center) (Around z) is = ap Around (sym is)
+kind_shown (view.Between low up) (Between l u) is = λ i. Between (sym is.0 i) (sym is.1 i)
+kind_shown view.Lowest Lowest is = refl
+kind_shown view.Highest Highest is = refl
+kind_shown (view.Pos values) kind is = absurd is
+kind_shown (view.Neg values) kind is = absurd is
+kind_shown (view.PosPos first second) kind is = absurd is
+kind_shown (view.PosNeg good bad) kind is = absurd is
+kind_shown (view.Layered before after) kind is = absurd is
+kind_shown (view.Explicit values) kind is = absurd is
+kind_shown (view.Around center) kind is = absurd is
+kind_shown (view.Between low up) kind is = absurd is
+kind_shown view.Lowest kind is = absurd is
+kind_shown view.Highest kind is = absurd is
 
 explicit_ranks : (edges : List Edge) (kind : Kind) → IsExplicitOf edges kind → has_level kind ≡ true
 explicit_ranks edges (Explicit g) made = refl

@@ -1,5 +1,5 @@
 //! What a base preference shows of itself.
-ghost use Rattle.std.specs.Prelude.{◌↔◌, ◌<◌, length, IsTrue};
+ghost use Rattle.std.specs.Prelude.{◌≡◌, ◌↔◌, ◌<◌, length, IsTrue};
 ghost use Rattle.base_prefs.specs.Graph.{graph_values};
 
 use crate::edge::ValueSet;
@@ -26,10 +26,19 @@ pub enum BaseView<'a> {
 
 impl BasePref {
     ghost use Rattle.base_prefs.specs.Kind.{edges_of, is_explicit};
-    ghost use Rattle.base_prefs.specs.View.{IsViewOf, IsAboveAt};
+    ghost use Rattle.base_prefs.specs.View.{IsViewOf, IsKindOf, IsAboveAt, is_above_at};
 
-    /// The kind and its arguments.
+    /// The kind and its arguments. What is shown determines the kind, but for the edges of a graph.
+    #[tactic(auto, using(crate::proofs::ShownLaws::kind_shown))]
     pub fn view(&self) -> BaseView<'_>
+        ensures shown { IsViewOf result self.now }
+        ensures kind { IsKindOf result self.now }
+    {
+        self.shown()
+    }
+
+    /// The same, without what it determines.
+    fn shown(&self) -> BaseView<'_>
         ensures { IsViewOf result self.now }
     {
         match self.kind() {
@@ -55,6 +64,17 @@ impl BasePref {
     ///
     /// Needs an EXPLICIT preference, and both places within that list.
     pub fn graph_better(&self, upper: usize, lower: usize) -> bool
+        requires explicit { IsTrue (is_explicit self.now) }
+        requires upper_there { upper < length (graph_values (edges_of self.now)) }
+        requires lower_there { lower < length (graph_values (edges_of self.now)) }
+        ensures test { result ≡ is_above_at (edges_of self.now) upper lower }
+        ensures meaning { IsTrue result ↔ IsAboveAt (edges_of self.now) upper lower }
+    {
+        self.tells_above(upper, lower)
+    }
+
+    /// The same, said as a path alone.
+    fn tells_above(&self, upper: usize, lower: usize) -> bool
         requires explicit { IsTrue (is_explicit self.now) }
         requires upper_there { upper < length (graph_values (edges_of self.now)) }
         requires lower_there { lower < length (graph_values (edges_of self.now)) }

@@ -11,7 +11,8 @@ use Rattle.base_prefs.specs.declared.edge.Edge.{Edge}
 use Rattle.base_prefs.specs.View.{IsAboveAt}
 use Rattle.base_prefs.specs.Graph.{graph_values, explicit_better, is_above, IsAbove}
 use Rattle.base_prefs.specs.Values.{is_in, place_of}
-use Rattle.base_prefs.specs.GraphLaws.{above_upper, is_above-Decides}
+use Rattle.base_prefs.specs.GraphLaws.{above_upper}
+use Rattle.base_prefs.proofs.Paths.{is_above-Decides}
 
 -- a place within the list is that of one of the values
 within_is_in : (vs : List Value) (v : Value) → place_of vs v < length vs → is_in vs v ≡ true
