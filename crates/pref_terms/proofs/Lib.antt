@@ -1,5 +1,10 @@
+pub mod BetterLaws
+pub mod CascadeLaws
+pub mod ClosedLeaves
 pub mod GraphPlaces
 pub mod Judged
 pub mod KeyReads
+pub mod LeafReads
+pub mod Lifted
 pub mod PartReads
 pub mod Standings

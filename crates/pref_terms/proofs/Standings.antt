@@ -1,17 +1,19 @@
 -- How a combination stands by a term, from how it stands by the parts.
-use Rattle.std.proofs.Common.{◌≡◌, ℕ, ◌+◌, Bool, true, false, ◌&&◌, ◌||◌, if◌then◌else◌, List, [], length, length-append, All, refl, ap, ◌∙◌, subst}
+use Rattle.std.proofs.Common.{◌≡◌, ℕ, ◌+◌, Bool, true, false, ◌&&◌, ◌||◌, List, [], length, length-append, All, refl, ap, ◌∙◌, subst}
 use Rattle.std.specs.Ordering.{ordering_then}
+use Rattle.std.specs.declared.cmp.Ordering.{Ordering}
+use Rattle.std.specs.declared.cmp.Ordering.TheVariants.{Less, Equal, Greater}
 use Rattle.std.proofs.lemmas.List.Elements.{All-head}
 use Rattle.prefsql_tables.specs.Sight.{Sight}
 use Rattle.base_prefs.specs.Kind as base
-use Rattle.pref_terms.specs.declared.bound.Standing.{Standing}
-use Rattle.pref_terms.specs.declared.bound.Standing.TheVariants.{Better, Same, Other}
+use Rattle.pref_terms.specs.declared.ranking.Standing.{Standing}
+use Rattle.pref_terms.specs.declared.ranking.Standing.TheVariants.{Better, Same, Other}
 use Rattle.pref_terms.specs.declared.term.Leaf.{Leaf}
 use Rattle.pref_terms.specs.declared.term.Term.{Term, Pareto, Prior}
 use Rattle.pref_terms.specs.declared.term.Term as term
 use Rattle.prefsql_tables.specs.Table.{Tables}
 use Rattle.pref_terms.specs.Fits.{LeafFits, LeavesFit}
-use Rattle.pref_terms.specs.Standing.{standing_of}
+use Rattle.pref_terms.specs.Standing.{standing_by, standing_of}
 use Rattle.pref_terms.specs.Terms.{Order, order_of, leaf_order, leaves_of, key_order}
 use Rattle.pref_terms.specs.Equations.{order_of-Leaf, order_of-Pareto, order_of-Prior, leaves_of-Leaf, leaves_of-Pareto, leaves_of-Prior, key_order-Leaf, key_order-Pareto, key_order-Prior}
 use Rattle.pref_terms.specs.TermLaws.{All-first, All-second}
@@ -28,10 +30,7 @@ by_prior Better s = Better
 by_prior Same s = s
 by_prior Other s = Other
 
-abbrev told : Bool → Bool → Standing
-told better same = if better then Better else (if same then Same else Other)
-
-told_by_pareto : (b s c t : Bool) → told ((b && (c || t)) || ((b || s) && c)) (s && t) ≡ by_pareto (told b s) (told c t)
+told_by_pareto : (b s c t : Bool) → standing_by ((b && (c || t)) || ((b || s) && c)) (s && t) ≡ by_pareto (standing_by b s) (standing_by c t)
 told_by_pareto true true true t = refl
 told_by_pareto true true false true = refl
 told_by_pareto true true false false = refl
@@ -43,7 +42,7 @@ told_by_pareto false true false true = refl
 told_by_pareto false true false false = refl
 told_by_pareto false false c t = refl
 
-told_by_prior : (b s c t : Bool) → told (b || (s && c)) (s && t) ≡ by_prior (told b s) (told c t)
+told_by_prior : (b s c t : Bool) → standing_by (b || (s && c)) (s && t) ≡ by_prior (standing_by b s) (standing_by c t)
 told_by_prior true s c t = refl
 told_by_prior false true true t = refl
 told_by_prior false true false true = refl
@@ -113,5 +112,14 @@ keys-Pareto t p q is y x = ap (λ u. key_order u y x) is ∙ key_order-Pareto p 
 
 pub keys-Prior : (t p q : Term) → t ≡ Prior p q → (y x : Sight) → key_order t y x ≡ ordering_then (key_order p y x) (key_order q y x)
 keys-Prior t p q is y x = ap (λ u. key_order u y x) is ∙ key_order-Prior p q y x
+
+-- the first keys decide where they differ, and else the second ones
+pub first_decides : (o p : Ordering) → (o ≡ Equal → ⊥) → o ≡ ordering_then o p
+first_decides Less p differ = refl
+first_decides Equal p differ = absurd (differ refl)
+first_decides Greater p differ = refl
+
+pub second_decides : (o p : Ordering) → o ≡ Equal → p ≡ ordering_then o p
+second_decides o p equal = rw equal refl
 
 pub ruleset standings = (standing-Leaf, standing-Pareto, standing-Prior, same-Leaf, same-Pareto, same-Prior, keys-Leaf, keys-Pareto, keys-Prior, width-Leaf, width-Pareto, width-Prior)

@@ -1,4 +1,6 @@
+pub mod Betters
 pub mod BoundLaws
+pub mod Cascades
 pub mod Equations
 pub mod Fits
 pub mod Induction

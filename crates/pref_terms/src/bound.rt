@@ -8,7 +8,7 @@ ghost use Rattle.pref_terms.specs.Terms.{leaf_order, leaves_of, order_of, key_or
 ghost use Rattle.pref_terms.specs.Fits.{LeafFits, LeavesFit, TermFits};
 ghost use Rattle.pref_terms.specs.Standing.{standing_of};
 
-use crate::ranking;
+use crate::ranking::{self, Standing};
 use crate::term::{Leaf, Term};
 use order_laws::Preference;
 use prefsql_tables::{ColumnPlace, Combo, TableSet, cell_in_sight};
@@ -33,14 +33,6 @@ pub struct BoundTerm<'t> {
     pub term: &'t Term,
     /// The group columns.
     pub groups: &'t [ColumnPlace],
-}
-
-/// How one combination stands to another.
-#[derive(Clone, Copy, Debug, PartialEq, Eq)]
-pub(crate) enum Standing {
-    Better,
-    Same,
-    Other,
 }
 
 impl BoundTerm<'_> {
@@ -71,13 +63,7 @@ impl BoundTerm<'_> {
         steps.tick();
         let a = self.leaf_cell(leaf, a);
         let b = self.leaf_cell(leaf, b);
-        if ranking::better(&leaf.base, a, b) {
-            Standing::Better
-        } else if ranking::same(&leaf.base, leaf.trivial, a, b) {
-            Standing::Same
-        } else {
-            Standing::Other
-        }
+        ranking::value_standing(&leaf.base, leaf.trivial, a, b)
     }
 
     /// How `a` stands to `b` by the term. The second part is asked only where the first leaves it open.
@@ -171,7 +157,7 @@ impl BoundTerm<'_> {
         a.cmp(&b)
     }
 
-    /// How the keys of the two compare by the term: as those of the first part, and where they are equal, of the second.
+    /// How the keys of the two compare by the term: the first two that differ decide, and no later key is computed.
     #[tactic(auto, using(crate::proofs::Standings::standings))]
     fn term_keys(&self, term: &Term, a: &Combo, b: &Combo) -> Ordering
         requires a_fits { LeavesFit self.now.tables.now self.now.from.now self.now.first a.now.rows term.now }
@@ -182,11 +168,17 @@ impl BoundTerm<'_> {
             Term::Leaf(leaf) => self.leaf_keys(leaf, a, b),
             Term::Pareto(first, second) => {
                 let by_first = self.term_keys(first.get(), a, b);
-                by_first.then(self.term_keys(second.get(), a, b))
+                match by_first {
+                    Ordering::Equal => self.term_keys(second.get(), a, b),
+                    order => order,
+                }
             }
             Term::Prior(first, second) => {
                 let leading = self.term_keys(first.get(), a, b);
-                leading.then(self.term_keys(second.get(), a, b))
+                match leading {
+                    Ordering::Equal => self.term_keys(second.get(), a, b),
+                    order => order,
+                }
             }
         }
     }

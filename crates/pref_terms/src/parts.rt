@@ -88,7 +88,8 @@ fn join_prior(
 /// Whether a leaf with this number is reached through Pareto nodes and first parts of Prior nodes alone.
 #[tactic(auto, using(crate::proofs::PartReads::closed_found))]
 pub fn is_closed_leaf(term: &Term, leaf: u32) -> bool
-    ensures { IsTrue result ↔ Contains (closed_numbers term.now) leaf }
+    ensures test { result ≡ list_any (nat_eq leaf) (closed_numbers term.now) }
+    ensures meaning { IsTrue result ↔ Contains (closed_numbers term.now) leaf }
 {
     has_closed(term, leaf)
 }

@@ -1,13 +1,22 @@
 //! How a base preference ranks cells, by its levels, its distances and its view.
-ghost use Rattle.std.specs.Prelude.{◌≡◌, ◌<◌, length, IsTrue, neg_ℤ, if◌then◌else◌};
+ghost use Rattle.std.specs.Prelude.{◌≡◌, ◌<◌, false, length, IsTrue, neg_ℤ, if◌then◌else◌};
 ghost use Rattle.prefsql_values.specs.Value.{value_of};
 ghost use Rattle.base_prefs.specs.Graph.{graph_values, explicit_better};
 ghost use Rattle.base_prefs.specs.Values.{place_of};
 ghost use Rattle.base_prefs.specs.Kind.{better_of, same_of, key_of, number_of, edges_of, is_explicit, IsJudged};
 ghost use Rattle.pref_terms.specs.Ranks.{is_highest};
+ghost use Rattle.pref_terms.specs.Standing.{standing_by};
 
 use base_prefs::{BasePref, BaseView};
 use prefsql_values::{Cell, Value, not_distinct};
+
+/// How one combination or value stands to another.
+#[derive(Clone, Copy, Debug, PartialEq, Eq)]
+pub(crate) enum Standing {
+    Better,
+    Same,
+    Other,
+}
 
 /// The number of a cell, or 0.
 fn number(cell: Cell<'_>) -> i128
@@ -88,15 +97,56 @@ fn graph_better(base: &BasePref, values: &[Value], a: Cell<'_>, b: Cell<'_>) -> 
     }
 }
 
-/// Whether the value of `a` is better than that of `b`: by the graph of EXPLICIT, else by the smaller key.
-pub(crate) fn better(base: &BasePref, a: Cell<'_>, b: Cell<'_>) -> bool
+/// How the value of `a` stands to that of `b`: it is better by the graph of EXPLICIT, else by the smaller key. Two values
+/// are the same with `trivial` where they are equal, else where their keys are.
+pub(crate) fn value_standing(base: &BasePref, trivial: bool, a: Cell<'_>, b: Cell<'_>) -> Standing
     requires a_judged { IsJudged base.now (value_of a) }
     requires b_judged { IsJudged base.now (value_of b) }
-    ensures { result ≡ better_of base.now (value_of a.entry) (value_of b.entry) }
+    ensures { result ≡ standing_by (better_of base.now (value_of a.entry) (value_of b.entry)) (same_of base.now trivial (value_of a.entry) (value_of b.entry)) }
 {
     if base.is_weak() {
-        return key(base, a) < key(base, b);
+        return keyed_standing(base, trivial, a, b);
     }
+    if explicit_better(base, a, b) {
+        Standing::Better
+    } else if same(base, trivial, a, b) {
+        Standing::Same
+    } else {
+        Standing::Other
+    }
+}
+
+/// The same for a kind that goes by its keys: one for each value.
+fn keyed_standing(base: &BasePref, trivial: bool, a: Cell<'_>, b: Cell<'_>) -> Standing
+    requires a_judged { IsJudged base.now (value_of a) }
+    requires b_judged { IsJudged base.now (value_of b) }
+    requires weak { is_explicit base.now ≡ false }
+    ensures { result ≡ standing_by (better_of base.now (value_of a.entry) (value_of b.entry)) (same_of base.now trivial (value_of a.entry) (value_of b.entry)) }
+{
+    let a_key = key(base, a);
+    let b_key = key(base, b);
+    if a_key < b_key {
+        return Standing::Better;
+    }
+    let same = if trivial {
+        not_distinct(a, b)
+    } else {
+        a_key == b_key
+    };
+    if same {
+        Standing::Same
+    } else {
+        Standing::Other
+    }
+}
+
+/// Whether the value of `a` is better than that of `b` by the graph of EXPLICIT.
+fn explicit_better(base: &BasePref, a: Cell<'_>, b: Cell<'_>) -> bool
+    requires a_judged { IsJudged base.now (value_of a) }
+    requires b_judged { IsJudged base.now (value_of b) }
+    requires explicit { IsTrue (is_explicit base.now) }
+    ensures { result ≡ better_of base.now (value_of a.entry) (value_of b.entry) }
+{
     match base.view() {
         BaseView::Explicit(values) => graph_better(base, values, a, b),
         _ => false,
