@@ -9,30 +9,12 @@ use Rattle.prefsql_values.proofs.ValueEq.{value_eq-Decides}
 use Rattle.prefsql_tables.specs.Sight.{Sight}
 use Rattle.prefsql_tables.specs.declared.place.ColumnPlace.{ColumnPlace}
 use Rattle.prefsql_tables.specs.declared.place.Combo.{Combo}
-use Rattle.order_laws.specs.Best.{best, is_unbettered}
-use Rattle.order_laws.proofs.Members.{among_from_Contains, Contains_from_among, among_filter, among_kept, none_at, none_from}
+use Rattle.order_laws.proofs.BestLaws.{best_items}
 use Rattle.pref_terms.specs.declared.term.Term.{Term}
 use Rattle.pref_terms.specs.Terms.{order_of, is_same_group, grouped_order}
+use Rattle.pref_terms.proofs.BetterLaws.{term_decided}
 use Rattle.query_meaning.specs.Answers.{best_by, candidates, seen}
-use Rattle.query_meaning.specs.BestRows.{HasBestRows, IsOfGroup, IsBetterBy}
-
-not_any : (b : Bool) → not b ≡ true → b ≡ false
-not_any true h = sym h
-not_any false h = refl
-
--- an item is one of the best exactly where it is there and none that is there is better
-best_items : {X : Type 0} (better : X → X → Bool) (xs : List X) (x : X) → Contains (best better xs) x ↔ (Contains xs x × ((y : X) → Contains xs y → better y x ≡ true → ⊥))
-best_items {X} better xs x = (there, back) where
-  there : Contains (best better xs) x → Contains xs x × ((y : X) → Contains xs y → better y x ≡ true → ⊥)
-  there c =
-      let kept = among_kept (is_unbettered better xs) xs x (among_from_Contains (best better xs) x c) in
-      let none = not_any (list_any (λ y. better y x) xs) kept.1 in
-      (Contains_from_among xs x kept.0, λ y in_xs is. both_ways (better y x) (none_at (λ z. better z x) xs y none (among_from_Contains xs y in_xs)) is)
-
-  back : Contains xs x × ((y : X) → Contains xs y → better y x ≡ true → ⊥) → Contains (best better xs) x
-  back w =
-      let none = none_from (λ y. better y x) xs (λ y a is. w.1 y (Contains_from_among xs y a) is) in
-      Contains_from_among (best better xs) x (among_filter (is_unbettered better xs) xs x (among_from_Contains xs x w.0) (ap not none))
+use Rattle.query_meaning.specs.BestRows.{HasBestRows, IsOfGroup, IsBetterBy, IsSoundPreference}
 
 -- being of one group is decided by the test of equal values
 same_group-Decides : (groups : List ColumnPlace) (y x : Sight) → Decides (is_same_group groups y x) (IsOfGroup groups y x)
@@ -46,17 +28,28 @@ module _ (term : Option Term) (groups : List ColumnPlace) (see : Combo → Sight
   abbrev IsUnbettered : Type 0
   IsUnbettered = (y : Combo) → Contains combos y → IsOfGroup groups (see y) (see x) → IsBetterBy term (see y) (see x) → ⊥
 
-best_by_rows : (term : Option Term) (groups : List ColumnPlace) (see : Combo → Sight) (combos : List Combo) (x : Combo)
+best_by_rows : (term : Option Term) (groups : List ColumnPlace) (see : Combo → Sight) (combos : List Combo) (x : Combo) → IsSoundPreference term
     → Contains (best_by term groups see combos) x ↔ (Contains combos x × IsUnbettered term groups see combos x)
-best_by_rows None groups see combos x = (λ c. (c, λ y there same better. better), λ w. w.0)
-best_by_rows (Some term) groups see combos x =
+best_by_rows None groups see combos x sound = (λ c. (c, λ y there same better. better), λ w. w.0)
+best_by_rows (Some term) groups see combos x sound =
     let better = on see ((grouped_order groups term).better) in
-    let is = best_items better combos x in (
-      λ c. let w = is.0 c in (w.0, λ y there same is_better. w.1 y there (and_from (is_same_group groups (see y) (see x)) ((order_of term).better (see y) (see x)) ((same_group-Decides groups (see y) (see x)).1 same) is_better)),
-      λ w. is.1 (w.0, λ y there h. let both = and_parts (is_same_group groups (see y) (see x)) ((order_of term).better (see y) (see x)) h in w.1 y there ((same_group-Decides groups (see y) (see x)).0 both.0) both.1),
+    let is = best_items better combos x in
+    let decided = term_decided term sound in (
+      λ c. let w = is.0 c in (
+        w.0,
+        λ y there same is_better.
+            w.1 y there (and_from (is_same_group groups (see y) (see x)) ((order_of term).better (see y) (see x))
+            ((same_group-Decides groups (see y) (see x)).1 same) ((decided.better (see y) (see x)).1 is_better)),
+      ),
+      λ w. is.1 (
+        w.0,
+        λ y there h.
+            let both = and_parts (is_same_group groups (see y) (see x)) ((order_of term).better (see y) (see x)) h in
+            w.1 y there ((same_group-Decides groups (see y) (see x)).0 both.0) ((decided.better (see y) (see x)).0 both.1),
+      ),
     )
 
 pub best_rows_are_best : HasBestRows
-best_rows_are_best tables block x =
-    let is = best_by_rows block.term block.groups (seen tables block) (candidates tables block) x in
+best_rows_are_best tables block x sound =
+    let is = best_by_rows block.term block.groups (seen tables block) (candidates tables block) x sound in
     (λ c. let w = is.0 c in record { candidate = w.0; unbettered = w.1 }, λ best. is.1 (best.candidate, best.unbettered))
