@@ -45,7 +45,11 @@ module _ (Token : Type 0) (Rule : Type 0 → Type 1) (class : Token → ℕ) (ri
   is_nested (many f) r = is_nested f r && eqb (after f r) r
   is_nested (rows c f g) r = ((is_nested f r && eqb (after f r) r) && (is_nested g r && eqb (after g r) r)) && (not (rises c) && not (falls c))
   is_nested (map h f) r = is_nested f r
-  is_nested (rule p) r = eqb r 1
+  is_nested (rule p) r = nat_le 1 r
+
+  at_least_one : (r : ℕ) → nat_le 1 r ≡ true → 1 ≤ r
+  at_least_one zero e = absurd (false≢true e)
+  at_least_one (suc r) e = omega arith
 
   level-append : (d : ℕ) (xs ys : List Token) → level d (xs ++ ys) ≡ level (level d xs) ys
   level-append d [] ys = refl
@@ -126,7 +130,7 @@ module _ (Token : Type 0) (Rule : Type 0 → Type 1) (class : Token → ℕ) (ri
     -- ---- from deep nesting to what the limit allows
 
     module _ (S : (A : Type 0) → Rule A → Fronts Token) (R' : (A : Type 0) → Rule A → Wholes Token A) (S' : (A : Type 0) → Rule A → Fronts Token) (limit d : ℕ)
-        (rules : suc d ≤ limit → (A : Type 0) (p : Rule A) (ts : List Token) → Stays limit (suc d) ts → ((v : A) → R A p ts v → R' A p ts v) × (S A p ts → S' A p ts)) where
+        (rules : (e : ℕ) → d ≤ e → suc e ≤ limit → (A : Type 0) (p : Rule A) (ts : List Token) → Stays limit (suc e) ts → ((v : A) → R A p ts v → R' A p ts v) × (S A p ts → S' A p ts)) where
       abbrev W' : {A : Type 0} → Form Token Rule A → Wholes Token A
       W' f ts v = WholeBy Token Rule class R' f ts v
 
@@ -185,8 +189,9 @@ module _ (Token : Type 0) (Rule : Type 0 → Type 1) (class : Token → ℕ) (ri
           )
       whole_limited (map h f) r k e n le ts v s w = (w.0, whole_limited f r k e n le ts w.0 s w.1, w.2)
       whole_limited (rule {A = A} p) r k e n le ts v s w =
-          let one : k ≡ suc d = n ∙ ap (λ z. d + z) (eqb-true r 1 e) ∙ omega arith in
-          (rules (omega (arith, one, le)) A p ts (subst (λ z. Stays limit z ts) one s)).0 v w
+          let some : 1 ≤ r = at_least_one r e in
+          let one : k ≡ suc (k - 1) = omega (arith, n, some) in
+          (rules (k - 1) (omega (arith, n, some)) (omega (arith, one, le)) A p ts (subst (λ z. Stays limit z ts) one s)).0 v w
 
       pub front_limited : {A : Type 0} (f : Form Token Rule A) (r k : ℕ) → is_nested f r ≡ true → k ≡ d + r → k ≤ limit → (ts : List Token) → Stays limit k ts → F f ts → F' f ts
       front_limited (nothing a) r k e n le ts s w = w
@@ -227,8 +232,9 @@ module _ (Token : Type 0) (Rule : Type 0 → Type 1) (class : Token → ℕ) (ri
           )
       front_limited (map h f) r k e n le ts s w = front_limited f r k e n le ts s w
       front_limited (rule {A = A} p) r k e n le ts s w =
-          let one : k ≡ suc d = n ∙ ap (λ z. d + z) (eqb-true r 1 e) ∙ omega arith in
-          (rules (omega (arith, one, le)) A p ts (subst (λ z. Stays limit z ts) one s)).1 w
+          let some : 1 ≤ r = at_least_one r e in
+          let one : k ≡ suc (k - 1) = omega (arith, n, some) in
+          (rules (k - 1) (omega (arith, n, some)) (omega (arith, one, le)) A p ts (subst (λ z. Stays limit z ts) one s)).1 w
 
   -- ---- a grammar
 
@@ -247,18 +253,18 @@ module _ (Token : Type 0) (Rule : Type 0 → Type 1) (class : Token → ℕ) (ri
         let none : d ≡ d + 0 = omega arith in
         level_is (whole m) (rule_balanced m) (right_side A p) d 0 d q.0 none ts v w ∙ ap (λ z. d + z) q.1 ∙ sym none
 
-    rules_limited : (m limit d : ℕ) → suc d ≤ limit → (A : Type 0) (p : Rule A) (ts : List Token) → Stays limit (suc d) ts →
+    rules_limited : (m limit d e : ℕ) → d ≤ e → suc e ≤ limit → (A : Type 0) (p : Rule A) (ts : List Token) → Stays limit (suc e) ts →
         ((v : A) → whole m A p ts v → whole (limit - d) A p ts v) × (front m A p ts → front (limit - d) A p ts)
     unfolding WholeRule FrontRule
-    rules_limited zero limit d le A p ts s = ((λ v w. absurd w), (λ w. subst (λ z. front (limit - d) A p z) (sym w) (rule_none_at Token Rule class right_side (limit - d) A p)))
-    rules_limited (suc m) limit d le A p ts s =
+    rules_limited zero limit d e above le A p ts s = ((λ v w. absurd w), (λ w. subst (λ z. front (limit - d) A p z) (sym w) (rule_none_at Token Rule class right_side (limit - d) A p)))
+    rules_limited (suc m) limit d e above le A p ts s =
         let q = nested A p in
-        let none : suc d ≡ suc d + 0 = omega arith in
-        let below : suc (limit - suc d) ≡ limit - d = omega arith in
+        let none : suc e ≡ suc e + 0 = omega arith in
+        let below : suc (limit - suc d) ≡ limit - d = omega (arith, above, le) in
         let wholes : (v : A) → whole (suc m) A p ts v → whole (suc (limit - suc d)) A p ts v = λ v w.
-        whole_limited (whole m) (rule_balanced m) (front m) (whole (limit - suc d)) (front (limit - suc d)) limit (suc d) (rules_limited m limit (suc d)) (right_side A p) 0 (suc d) q.0 none le ts v s w in
+        whole_limited (whole m) (rule_balanced m) (front m) (whole (limit - suc d)) (front (limit - suc d)) limit (suc e) (λ f more. rules_limited m limit (suc d) f (omega (arith, above, more))) (right_side A p) 0 (suc e) q.0 none le ts v s w in
         let fronts : front (suc m) A p ts → front (suc (limit - suc d)) A p ts = λ w.
-        front_limited (whole m) (rule_balanced m) (front m) (whole (limit - suc d)) (front (limit - suc d)) limit (suc d) (rules_limited m limit (suc d)) (right_side A p) 0 (suc d) q.0 none le ts s w in
+        front_limited (whole m) (rule_balanced m) (front m) (whole (limit - suc d)) (front (limit - suc d)) limit (suc e) (λ f more. rules_limited m limit (suc d) f (omega (arith, above, more))) (right_side A p) 0 (suc e) q.0 none le ts s w in
         ((λ v w. subst (λ z. whole z A p ts v) below (wholes v w)), (λ w. subst (λ z. front z A p ts) below (fronts w)))
 
     -- Where the depth stays within the limit, productions nest no deeper than the limit.

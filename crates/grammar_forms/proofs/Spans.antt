@@ -47,7 +47,7 @@ module _ (Token : Type 0) (Rule : Type 0 → Type 1) (class : Token → ℕ) (ri
   SpanBy Q d (many f) r lo hi v = Chain (λ a b u. SpanBy Q d f r a b u) lo hi v
   SpanBy Q d (rows c f g) r lo hi v = Unit {0}
   SpanBy Q d (map {A = A} h f) r lo hi v = (u : A) × SpanBy Q d f r lo hi u × (v ≡ h u)
-  SpanBy Q d (rule {A = A} p) r lo hi v = Q A p (suc d) lo hi v
+  SpanBy Q d (rule {A = A} p) r lo hi v = Q A p (d + r) lo hi v
 
   module _ (R : (A : Type 0) → Rule A → Wholes Token A) (balanced : (A : Type 0) (p : Rule A) (d : ℕ) (ts : List Token) (v : A) → R A p ts v → level Token Rule class rises falls d ts ≡ d)
       (Q : (A : Type 0) → Rule A → ℕ → ℕ → ℕ → A → Type 0) (rules : (A : Type 0) (p : Rule A) (d lo : ℕ) (ts : List Token) (hi : ℕ) (v : A) → hi ≤ last → Runs d lo ts hi → R A p ts v → Q A p d lo hi v) where
@@ -92,5 +92,4 @@ module _ (Token : Type 0) (Rule : Type 0 → Type 1) (class : Token → ℕ) (ri
     span_of (rows c f g) d r k e n lo ts hi v le run w = tt
     span_of (map h f) d r k e n lo ts hi v le run w = (w.0, span_of f d r k e n lo ts hi w.0 le run w.1, w.2)
     span_of (rule {A = A} p) d r k e n lo ts hi v le run w =
-        let one : k ≡ suc d = n ∙ ap (λ z. d + z) (eqb-true r 1 e) ∙ omega arith in
-        rules A p (suc d) lo ts hi v le (subst (λ z. Runs z lo ts hi) one run) w
+        rules A p (d + r) lo ts hi v le (subst (λ z. Runs z lo ts hi) n run) w
