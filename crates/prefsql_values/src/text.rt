@@ -28,6 +28,13 @@ impl Text {
         Ok(Text { text })
     }
 
+    /// The text that the string holds, which is not copied.
+    pub fn from_string(text: String) -> Text
+        ensures { result ≡ string_bytes text }
+    {
+        Text { text }
+    }
+
     /// The characters of the text.
     pub fn as_str(&self) -> &str
         ensures { result.now ≡ self.now }
