@@ -10,7 +10,7 @@ use Rattle.prefsql_lexer.specs.declared.token.Keyword.{Keyword}
 use Rattle.prefsql_lexer.specs.declared.token.Keyword.TheVariants as word
 use Rattle.prefsql_lexer.specs.declared.token.Symbol.{Symbol}
 use Rattle.prefsql_lexer.specs.declared.token.Symbol.TheVariants as symbol
-use Rattle.query_grammar.specs.Classes.{class, kind_class, word_class, symbol_class}
+use Rattle.query_grammar.specs.Classes.{class, kind_class, number_of, word_class, symbol_class}
 use Rattle.query_grammar.specs.Forms.{Grammar, Rule, condition_rule, preference_rule}
 use Rattle.query_grammar.specs.Columns.{column, columns, optional_sign, number_form, literal, literals, op, direction, order, orders}
 use Rattle.query_grammar.specs.Scalars.{level as level_form, distance, plain_scalar, scalar, scalars, negation, comparison, between, member, null_test}
@@ -23,10 +23,10 @@ use Rattle.grammar_forms.specs.Form.{option, many}
 
 -- the classes of ( and CASE, and of ) and END
 abbrev pub rises : ℕ → Bool
-rises c = eqb c 3 || eqb c 25
+rises c = eqb c (symbol_class symbol.LeftParen) || eqb c (word_class word.Case)
 
 abbrev pub falls : ℕ → Bool
-falls c = eqb c 4 || eqb c 31
+falls c = eqb c (symbol_class symbol.RightParen) || eqb c (word_class word.End)
 
 abbrev pub turns : ℕ → ℕ → ℕ
 turns c d = turn Token Rule class rises falls c d
@@ -92,7 +92,7 @@ symbol_turn d symbol.Plus = refl
 symbol_turn d symbol.Minus = refl
 symbol_turn d symbol.Star = refl
 
-kind_turn : (d : ℕ) (k : TokenKind) → depth_after d k ≡ turns (kind_class k) d
+kind_turn : (d : ℕ) (k : TokenKind) → depth_after d k ≡ turns (number_of (kind_class k)) d
 kind_turn d (kind.Word w) = word_turn d w
 kind_turn d (kind.Name t) = refl
 kind_turn d (kind.Number n) = refl

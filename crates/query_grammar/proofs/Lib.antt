@@ -1,6 +1,8 @@
+pub mod Classes
 pub mod Predictive
 pub mod Written
 pub mod Counted
 pub mod Depth
 pub mod Accepted
 pub mod Faults
+pub mod OneFault

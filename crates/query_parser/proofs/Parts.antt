@@ -1,6 +1,7 @@
 -- What names, numbers and literals are of tokens within the limits, and lists of well made parts.
-use Rattle.std.proofs.Common.{◌≡◌, ◌≤◌, ◌<◌, ◌+◌, ◌^◌, ℕ, ℤ, List, [], ◌∷◌, length, All, sym, ap, subst, ◌∙◌, arith}
+use Rattle.std.proofs.Common.{◌≡◌, ◌≤◌, ◌<◌, ◌+◌, ◌^◌, ℕ, ℤ, Bool, true, false, refl, List, [], ◌∷◌, length, All, sym, ap, subst, ◌∙◌, arith}
 use Rattle.std.specs.List.{flat_map}
+use Rattle.std.proofs.lemmas.Bool.{false≢true}
 use Rattle.std.proofs.lemmas.List.Elements.{All-nil, All-cons}
 use Rattle.grammar_forms.specs.Form.{token}
 use Rattle.grammar_forms.proofs.Nesting.{turn, after}
@@ -9,88 +10,44 @@ use Rattle.prefsql_lexer.specs.Bounds.{IsNameShort, IsNumberSmall}
 use Rattle.prefsql_lexer.specs.declared.token.Token.{Token}
 use Rattle.prefsql_lexer.specs.declared.token.TokenKind.{TokenKind}
 use Rattle.prefsql_lexer.specs.declared.token.TokenKind.TheVariants as kind
-use Rattle.prefsql_lexer.specs.declared.token.Keyword.{Keyword}
-use Rattle.prefsql_lexer.specs.declared.token.Keyword.TheVariants as word
-use Rattle.prefsql_lexer.specs.declared.token.Symbol.{Symbol}
-use Rattle.prefsql_lexer.specs.declared.token.Symbol.TheVariants as symbol
 use Rattle.query_tree.proofs.Rising.{Rises, Rises-wider, Rises-append}
 use Rattle.query_tree.specs.WellMade.{IsFilled}
 use Rattle.prefsql_values.specs.Limits.{IsName, IsUnsignedShort}
-use Rattle.query_grammar.specs.Classes.{class, kind_class, word_class, symbol_class, text_in, number_in}
+use Rattle.query_grammar.specs.declared.class.TokenClass.{TokenClass}
+use Rattle.query_grammar.specs.declared.class.TokenClass.TheVariants as token_class
+use Rattle.query_grammar.specs.Classes.{class, kind_class, number_of, name_class, number_class, text_in, number_in}
 use Rattle.query_grammar.specs.Forms.{Grammar, Rule, Named, name, number, separated, in_parens, ◌⨟>◌}
+use Rattle.query_grammar.proofs.Classes.{same_number}
 use Rattle.query_grammar.proofs.Depth.{rises, falls}
 
-word_class_is : (w : Keyword) → 17 ≤ word_class w
-word_class_is word.And = omega arith
-word_class_is word.Around = omega arith
-word_class_is word.As = omega arith
-word_class_is word.Asc = omega arith
-word_class_is word.Between = omega arith
-word_class_is word.But = omega arith
-word_class_is word.By = omega arith
-word_class_is word.Cascade = omega arith
-word_class_is word.Case = omega arith
-word_class_is word.Desc = omega arith
-word_class_is word.Distance = omega arith
-word_class_is word.Distinct = omega arith
-word_class_is word.Dual = omega arith
-word_class_is word.Else = omega arith
-word_class_is word.End = omega arith
-word_class_is word.Exists = omega arith
-word_class_is word.Explicit = omega arith
-word_class_is word.From = omega arith
-word_class_is word.Grouping = omega arith
-word_class_is word.Highest = omega arith
-word_class_is word.In = omega arith
-word_class_is word.Is = omega arith
-word_class_is word.Layered = omega arith
-word_class_is word.Level = omega arith
-word_class_is word.Lowest = omega arith
-word_class_is word.Not = omega arith
-word_class_is word.Null = omega arith
-word_class_is word.Only = omega arith
-word_class_is word.Or = omega arith
-word_class_is word.Order = omega arith
-word_class_is word.Others = omega arith
-word_class_is word.Preferring = omega arith
-word_class_is word.Regular = omega arith
-word_class_is word.Rounds = omega arith
-word_class_is word.Select = omega arith
-word_class_is word.Then = omega arith
-word_class_is word.Top = omega arith
-word_class_is word.Trivial = omega arith
-word_class_is word.When = omega arith
-word_class_is word.Where = omega arith
+abbrev is_name_class : TokenClass → Bool
+is_name_class token_class.Name = true
+is_name_class _ = false
 
-symbol_class_is : (s : Symbol) → 3 ≤ symbol_class s
-symbol_class_is symbol.LeftParen = omega arith
-symbol_class_is symbol.RightParen = omega arith
-symbol_class_is symbol.Comma = omega arith
-symbol_class_is symbol.Dot = omega arith
-symbol_class_is symbol.Semicolon = omega arith
-symbol_class_is symbol.Equal = omega arith
-symbol_class_is symbol.NotEqual = omega arith
-symbol_class_is symbol.Less = omega arith
-symbol_class_is symbol.LessEqual = omega arith
-symbol_class_is symbol.Greater = omega arith
-symbol_class_is symbol.GreaterEqual = omega arith
-symbol_class_is symbol.Plus = omega arith
-symbol_class_is symbol.Minus = omega arith
-symbol_class_is symbol.Star = omega arith
+abbrev is_number_class : TokenClass → Bool
+is_number_class token_class.Number = true
+is_number_class _ = false
 
-name_is : (k : TokenKind) → kind_class k ≡ 0 → IsNameShort k → IsName (text_in k)
-name_is (kind.Word w) e f = absurd (let n = word_class_is w in omega (arith, e))
+-- a token of another class than that of names, and of numbers
+no_name : (c : TokenClass) → is_name_class c ≡ false → number_of c ≡ name_class → ⊥
+no_name c other e = false≢true (sym other ∙ ap is_name_class (same_number c token_class.Name e))
+
+no_number : (c : TokenClass) → is_number_class c ≡ false → number_of c ≡ number_class → ⊥
+no_number c other e = false≢true (sym other ∙ ap is_number_class (same_number c token_class.Number e))
+
+name_is : (k : TokenKind) → number_of (kind_class k) ≡ name_class → IsNameShort k → IsName (text_in k)
+name_is (kind.Word w) e f = absurd (no_name (token_class.Word w) refl e)
 name_is (kind.Name t) e f = f
-name_is (kind.Number n) e f = absurd (omega (arith, e))
-name_is (kind.Chars t) e f = absurd (omega (arith, e))
-name_is (kind.Symbol s) e f = absurd (let n = symbol_class_is s in omega (arith, e))
+name_is (kind.Number n) e f = absurd (no_name token_class.Number refl e)
+name_is (kind.Chars t) e f = absurd (no_name token_class.Text refl e)
+name_is (kind.Symbol s) e f = absurd (no_name (token_class.Symbol s) refl e)
 
-number_is : (k : TokenKind) → kind_class k ≡ 1 → IsNumberSmall k → IsUnsignedShort (number_in k)
-number_is (kind.Word w) e f = absurd (let n = word_class_is w in omega (arith, e))
-number_is (kind.Name t) e f = absurd (omega (arith, e))
+number_is : (k : TokenKind) → number_of (kind_class k) ≡ number_class → IsNumberSmall k → IsUnsignedShort (number_in k)
+number_is (kind.Word w) e f = absurd (no_number (token_class.Word w) refl e)
+number_is (kind.Name t) e f = absurd (no_number token_class.Name refl e)
 number_is (kind.Number n) e f = f
-number_is (kind.Chars t) e f = absurd (omega (arith, e))
-number_is (kind.Symbol s) e f = absurd (let n = symbol_class_is s in omega (arith, e))
+number_is (kind.Chars t) e f = absurd (no_number token_class.Text refl e)
+number_is (kind.Symbol s) e f = absurd (no_number (token_class.Symbol s) refl e)
 
 -- ---- spans
 

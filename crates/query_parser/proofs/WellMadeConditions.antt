@@ -260,6 +260,9 @@ module _ (last : ℕ) (small : last < 2 ^ 32) where
         filled = (let k = b.1 in let j = c.1 in let i = x.filled in let h = y.filled in omega arith);
       })
 
+  one_deeper : (d : ℕ) → d + 1 ≡ suc d
+  one_deeper d = omega arith
+
   -- after a parenthesis that is opened
   opened : (d : ℕ) (t : Token) → class t ≡ 3 → turn Token Rule class rises falls (class t) (d + 0) ≤ 64 → suc d ≤ 64
   opened d t e le = let k = subst (λ z. turn Token Rule class rises falls z (d + 0) ≤ 64) e le in omega (arith, k)
@@ -314,7 +317,7 @@ module _ (last : ℕ) (small : last < 2 ^ 32) where
 
   paren_part : (q : Bool) (d lo hi : ℕ) (v : CondTree) → Is (in_parens (rule (condition_rule q))) d lo hi v → Part (Fits q anywhere d) cond_places lo hi v
   paren_part q d lo hi v w =
-      let p = enclosed_part last Good (Fits q by_itself (suc d)) cond_places d 0 (rule (condition_rule q)) (λ a b c i. i (opened d w.1.1.0 w.1.1.1 w.1.1.2.deep)) lo hi v w in
+      let p = enclosed_part last Good (Fits q by_itself (suc d)) cond_places d 0 (rule (condition_rule q)) (λ a b c i. subst (λ z. Good CondTree (condition_rule q) z a b c) (one_deeper d) i (opened d w.1.1.0 w.1.1.1 w.1.1.2.deep)) lo hi v w in
       record { good = inner_fits q d v p.good; rising = p.rising; filled = p.filled }
 
   plain_test_part : (q : Bool) (d lo hi : ℕ) (v : CondTree) → d ≤ 64 → Is (map_form test_tree (both (scalar q) (rest q))) d lo hi v → Part (Fits q anywhere d) cond_places lo hi v

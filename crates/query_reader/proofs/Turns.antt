@@ -1,5 +1,5 @@
 -- A list with separators, read turn by turn.
-use Rattle.std.proofs.Common.{◌≡◌, ◌≢◌, ℕ, suc, ◌-◌, true, false, List, [], ◌∷◌, ◌++◌, length, ◌<◌, ◌≤◌, refl, sym, ap, ◌∙◌, arith, append_assoc, Option, Some, None, Ok, Err}
+use Rattle.std.proofs.Common.{◌≡◌, ◌≢◌, ℕ, suc, ◌-◌, true, false, List, [], ◌∷◌, ◌++◌, length, ◌<◌, ◌≤◌, refl, sym, ap, ◌∙◌, arith, append_assoc, Option, Some, None, Result, Ok, Err}
 use Rattle.std.proofs.lemmas.Bool.{and_from}
 use Rattle.std.proofs.lemmas.List.{append-nil}
 use Rattle.grammar_forms.specs.Form.{token, many, rows}
@@ -9,10 +9,11 @@ use Rattle.prefsql_lexer.specs.declared.token.Token.{Token}
 use Rattle.query_grammar.specs.Classes.{class}
 use Rattle.query_grammar.specs.Forms.{Grammar, Rule, ◌⨟>◌}
 use Rattle.query_grammar.specs.Outcome.{rule_starts, rule_continues, right_side, outcome, nested}
-use Rattle.query_reader.specs.Reads.{Reads, with_front, with_items}
+use Rattle.query_reader.specs.Reads.{Reads, IsPushed, with_front, with_items}
 use Rattle.query_reader.specs.declared.cursor.Stop.{Stop}
 use Rattle.query_reader.specs.declared.cursor.Stop.TheVariants.{Fault, Memory}
 use Rattle.query_grammar.proofs.Predictive.{predictive, first, agrees}
+use Rattle.query_reader.proofs.Kept.{pushed_read}
 
 front_twice : {A : Type 0} (found : List A) (v : A) (o : Outcome Token (List A)) → with_front found (with_value (λ vs. v ∷ vs) o) ≡ with_front (found ++ v ∷ []) o
 front_twice found v (Ok p) = ap (λ z. Ok (z, p.1)) (sym (append_assoc found (v ∷ []) p.0))
@@ -62,6 +63,14 @@ module _ (n : ℕ) {A : Type 0} (c : ℕ) (f : Grammar A) (decides : predictive 
   pub separated_more : {total : Outcome Token (List A)} (ts next rest : List Token) (found pushed : List A) (v : A) → total ≡ with_front found (outcome n (many one) ts) →
       (begins class (c ∷ []) ts ≡ true) × (read_token class c (λ t. tt {0}) ts ≡ Ok (tt {0}, next)) → outcome n f next ≡ Ok (v, rest) → pushed ≡ found ++ v ∷ [] → total ≡ with_front pushed (outcome n (many one) rest)
   separated_more ts next rest found pushed v e b r p = e ∙ separated_turn ts next rest v found b.0 b.1 r ∙ ap (λ z. with_front z (outcome n (many one) rest)) (sym p)
+
+  -- the same, where the item is pushed as soon as it is read
+  pub pushed_less : (ts next rest : List Token) (found list : List A) (item : Result A Stop) → read_token class c (λ t. tt {0}) ts ≡ Ok (tt {0}, next) → IsPushed found item (Ok list) → Reads (outcome n f next) item rest → length rest < length ts
+  pushed_less ts next rest found list item e p reads = let r = pushed_read (outcome n f next) item rest found list p reads in separated_less ts next rest r.0 e r.1
+
+  pub pushed_more : {total : Outcome Token (List A)} (ts next rest : List Token) (found list : List A) (item : Result A Stop) → total ≡ with_front found (outcome n (many one) ts) →
+      (begins class (c ∷ []) ts ≡ true) × (read_token class c (λ t. tt {0}) ts ≡ Ok (tt {0}, next)) → IsPushed found item (Ok list) → Reads (outcome n f next) item rest → total ≡ with_front list (outcome n (many one) rest)
+  pushed_more ts next rest found list item e b p reads = let r = pushed_read (outcome n f next) item rest found list p reads in separated_more ts next rest found list r.0 e b r.1 r.2
 
 -- ---- a production that nests
 

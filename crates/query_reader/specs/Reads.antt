@@ -30,3 +30,14 @@ with_trees found o = with_value (λ p. (found ++ p.0, p.1)) o
 -- with these items before those that are read
 abbrev pub with_items : {A B : Type 0} → List A → Outcome Token (List A × Option B) → Outcome Token (List A × Option B)
 with_items found o = with_value (λ p. (found ++ p.0, p.1)) o
+
+-- the first value with the second one, if there is one
+abbrev pub IsPair : {A B : Type 0} → A → Result B Stop → Result (A × B) Stop → Type 0
+IsPair first second (Ok p) = (p.0 ≡ first) × (second ≡ Ok p.1)
+IsPair first second (Err stop) = second ≡ Err stop
+
+-- the list with one more item, if there is one
+abbrev pub IsPushed : {A : Type 0} → List A → Result A Stop → Result (List A) Stop → Type 0
+IsPushed {A} found item (Ok list) = (v : A) × (item ≡ Ok v) × (list ≡ found ++ v ∷ [])
+IsPushed found item (Err Fault) = item ≡ Err Fault
+IsPushed found item (Err Memory) = Unit {0}

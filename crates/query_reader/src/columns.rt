@@ -7,6 +7,7 @@ ghost use Rattle.query_grammar.specs.Outcome.{outcome};
 ghost use Rattle.query_reader.specs.Reads.{Reads};
 
 use crate::cursor::{Cursor, Stop};
+use crate::held::{both, pushed};
 use crate::parser::Parser;
 use prefsql_lexer::Symbol;
 use prefsql_values::{List, Value};
@@ -67,10 +68,9 @@ impl Parser {
     pub(crate) fn literals(self, tokens: &mut Cursor<'_>) -> Result<List<LiteralTree>, Stop>
         ensures { Reads (outcome self.depth columns.literals tokens.old) result tokens.new }
     {
-        let mut found = List::new(self.alloc);
-        found.push(self.literal(tokens)?)?;
+        let mut found = pushed(List::new(self.alloc), self.literal(tokens))?;
         'more: while tokens.eat_symbol(Symbol::Comma) {
-            found.push(self.literal(tokens)?)?;
+            found = pushed(found, self.literal(tokens))?;
         }
         Ok(found)
     }
@@ -81,7 +81,7 @@ impl Parser {
     {
         tokens.symbol(Symbol::LeftParen)?;
         let literals = self.literals(tokens)?;
-        tokens.symbol(Symbol::RightParen)?;
+        let (literals, _) = both(literals, tokens.symbol(Symbol::RightParen))?;
         Ok(SetTree { literals })
     }
 }

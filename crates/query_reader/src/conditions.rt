@@ -11,6 +11,7 @@ ghost use Rattle.query_grammar.specs.Outcome.{outcome, nested};
 ghost use Rattle.query_reader.specs.Reads.{Reads};
 
 use crate::cursor::{Cursor, Stop};
+use crate::held::{both, pushed};
 use crate::parser::Parser;
 use prefsql_lexer::{Keyword, Symbol};
 use prefsql_values::{Boxed, CompareOp, List};
@@ -29,7 +30,7 @@ impl Parser {
     {
         tokens.symbol(Symbol::LeftParen)?;
         let column = self.column(tokens)?;
-        tokens.symbol(Symbol::RightParen)?;
+        let (column, _) = both(column, tokens.symbol(Symbol::RightParen))?;
         Ok(column)
     }
 
@@ -102,12 +103,24 @@ impl Parser {
     fn scalars(self, tokens: &mut Cursor<'_>, qualities: bool) -> Result<List<ScalarTree>, Stop>
         ensures { Reads (outcome self.depth (scalars.scalars qualities) tokens.old) result tokens.new }
     {
-        let mut found = List::new(self.alloc);
-        found.push(self.scalar(tokens, qualities)?)?;
+        let mut found = pushed(List::new(self.alloc), self.scalar(tokens, qualities))?;
         'more: while tokens.eat_symbol(Symbol::Comma) {
-            found.push(self.scalar(tokens, qualities)?)?;
+            found = pushed(found, self.scalar(tokens, qualities))?;
         }
         Ok(found)
+    }
+
+    fn scalars_in_parens(
+        self,
+        tokens: &mut Cursor<'_>,
+        qualities: bool,
+    ) -> Result<List<ScalarTree>, Stop>
+        ensures { Reads (outcome self.depth (forms.in_parens (scalars.scalars qualities)) tokens.old) result tokens.new }
+    {
+        tokens.symbol(Symbol::LeftParen)?;
+        let scalars = self.scalars(tokens, qualities)?;
+        let (scalars, _) = both(scalars, tokens.symbol(Symbol::RightParen))?;
+        Ok(scalars)
     }
 
     #[tactic(auto, unfolding(query_grammar::specs::Scalars::between))]
@@ -120,10 +133,10 @@ impl Parser {
     ) -> Result<CondTree, Stop>
         ensures { Reads (with_value (λ h. h negated left) (outcome self.depth (scalars.between qualities) tokens.old)) result tokens.new }
     {
-        tokens.word(Keyword::Between)?;
-        let low = self.scalar(tokens, qualities)?;
-        tokens.word(Keyword::And)?;
-        let high = self.scalar(tokens, qualities)?;
+        let (left, _) = both(left, tokens.word(Keyword::Between))?;
+        let (left, low) = both(left, self.scalar(tokens, qualities))?;
+        let (sides, _) = both((left, low), tokens.word(Keyword::And))?;
+        let ((left, low), high) = both(sides, self.scalar(tokens, qualities))?;
         Ok(CondTree::Between(negated, left, low, high))
     }
 
@@ -137,10 +150,8 @@ impl Parser {
     ) -> Result<CondTree, Stop>
         ensures { Reads (with_value (λ h. h negated left) (outcome self.depth (scalars.member qualities) tokens.old)) result tokens.new }
     {
-        tokens.word(Keyword::In)?;
-        tokens.symbol(Symbol::LeftParen)?;
-        let items = self.scalars(tokens, qualities)?;
-        tokens.symbol(Symbol::RightParen)?;
+        let (left, _) = both(left, tokens.word(Keyword::In))?;
+        let (left, items) = both(left, self.scalars_in_parens(tokens, qualities))?;
         Ok(CondTree::OneOf(negated, left, items))
     }
 
@@ -148,9 +159,9 @@ impl Parser {
     fn null_test(self, tokens: &mut Cursor<'_>, left: ScalarTree) -> Result<CondTree, Stop>
         ensures { Reads (with_value (λ h. h left) (outcome self.depth scalars.null_test tokens.old)) result tokens.new }
     {
-        tokens.word(Keyword::Is)?;
+        let (left, _) = both(left, tokens.word(Keyword::Is))?;
         let negated = self.negation(tokens);
-        tokens.word(Keyword::Null)?;
+        let (left, _) = both(left, tokens.word(Keyword::Null))?;
         Ok(CondTree::IsNull(negated, left))
     }
 
@@ -163,8 +174,8 @@ impl Parser {
     ) -> Result<CondTree, Stop>
         ensures { Reads (with_value (λ h. h left) (outcome self.depth (scalars.comparison qualities) tokens.old)) result tokens.new }
     {
-        let op = self.operator(tokens)?;
-        let right = self.scalar(tokens, qualities)?;
+        let (left, op) = both(left, self.operator(tokens))?;
+        let (left, right) = both(left, self.scalar(tokens, qualities))?;
         Ok(CondTree::Compare(op, left, right))
     }
 
@@ -228,7 +239,7 @@ impl Parser {
     {
         if tokens.eat_symbol(Symbol::LeftParen) {
             let inner = self.nested_condition(tokens, qualities)?;
-            tokens.symbol(Symbol::RightParen)?;
+            let (inner, _) = both(inner, tokens.symbol(Symbol::RightParen))?;
             return Ok(inner);
         }
         let left = self.scalar(tokens, qualities)?;
@@ -265,10 +276,9 @@ impl Parser {
     fn conjuncts(self, tokens: &mut Cursor<'_>, qualities: bool) -> Result<List<CondTree>, Stop>
         ensures { Reads (outcome self.depth (conditions.conjuncts qualities) tokens.old) result tokens.new }
     {
-        let mut found = List::new(self.alloc);
-        found.push(self.negated(tokens, qualities)?)?;
+        let mut found = pushed(List::new(self.alloc), self.negated(tokens, qualities))?;
         'more: while tokens.eat_word(Keyword::And) {
-            found.push(self.negated(tokens, qualities)?)?;
+            found = pushed(found, self.negated(tokens, qualities))?;
         }
         Ok(found)
     }
@@ -286,10 +296,9 @@ impl Parser {
     fn disjuncts(self, tokens: &mut Cursor<'_>, qualities: bool) -> Result<List<CondTree>, Stop>
         ensures { Reads (outcome self.depth (conditions.disjuncts qualities) tokens.old) result tokens.new }
     {
-        let mut found = List::new(self.alloc);
-        found.push(self.conjunction(tokens, qualities)?)?;
+        let mut found = pushed(List::new(self.alloc), self.conjunction(tokens, qualities))?;
         'more: while tokens.eat_word(Keyword::Or) {
-            found.push(self.conjunction(tokens, qualities)?)?;
+            found = pushed(found, self.conjunction(tokens, qualities))?;
         }
         Ok(found)
     }

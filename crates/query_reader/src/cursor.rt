@@ -6,9 +6,9 @@ ghost use Rattle.query_grammar.specs.Classes as spec;
 ghost use Rattle.query_grammar.specs.Place.{place_of};
 ghost use Rattle.query_reader.specs.Reads.{Eats, Reads};
 
-use crate::class::{CHARS_CLASS, NAME_CLASS, NUMBER_CLASS, symbol_class, token_class, word_class};
 use prefsql_lexer::{Keyword, Symbol, Token, TokenKind};
 use prefsql_values::{Memory, Text};
+use query_grammar::TokenClass;
 use std::alloc::Global;
 use std::marker::Model;
 
@@ -57,12 +57,12 @@ impl<'a> Cursor<'a> {
     }
 
     /// Whether the next token is of this class.
-    fn at(&self, class: u8) -> bool
-        ensures { result ≡ begins spec.class (class ∷ []) self.now }
+    fn at(&self, class: TokenClass) -> bool
+        ensures { result ≡ begins spec.class (spec.number_of class ∷ []) self.now }
     {
         match self.tokens.first() {
             None => false,
-            Some(token) => token_class(token) == class,
+            Some(token) => class.has(token),
         }
     }
 
@@ -86,36 +86,36 @@ impl<'a> Cursor<'a> {
     pub(crate) fn at_symbol(&self, symbol: Symbol) -> bool
         ensures { result ≡ begins spec.class (spec.symbol_class symbol ∷ []) self.now }
     {
-        self.at(symbol_class(symbol))
+        self.at(TokenClass::Symbol(symbol))
     }
 
     /// Whether the next token is this reserved word.
     pub fn at_word(&self, word: Keyword) -> bool
         ensures { result ≡ begins spec.class (spec.word_class word ∷ []) self.now }
     {
-        self.at(word_class(word))
+        self.at(TokenClass::Word(word))
     }
 
     pub(crate) fn at_chars(&self) -> bool
         ensures { result ≡ begins spec.class (spec.chars_class ∷ []) self.now }
     {
-        self.at(CHARS_CLASS)
+        self.at(TokenClass::Text)
     }
 
     pub(crate) fn at_name(&self) -> bool
         ensures { result ≡ begins spec.class (spec.name_class ∷ []) self.now }
     {
-        self.at(NAME_CLASS)
+        self.at(TokenClass::Name)
     }
 
     /// The next token, if it is of this class.
-    fn take(&mut self, class: u8) -> Option<&'a Token>
+    fn take(&mut self, class: TokenClass) -> Option<&'a Token>
         ensures { MatchOption result
-            ((begins spec.class (class ∷ []) self.old ≡ false) × (self.new ≡ self.old))
-            (λ t. (self.old ≡ t.now ∷ self.new) × (spec.class t.now ≡ class)) }
+            ((begins spec.class (spec.number_of class ∷ []) self.old ≡ false) × (self.new ≡ self.old))
+            (λ t. (self.old ≡ t.now ∷ self.new) × (spec.class t.now ≡ spec.number_of class)) }
     {
         let (first, rest) = self.tokens.split_first()?;
-        if token_class(first) != class {
+        if !class.has(first) {
             return None;
         }
         self.tokens = rest;
@@ -125,7 +125,7 @@ impl<'a> Cursor<'a> {
     pub(crate) fn symbol(&mut self, symbol: Symbol) -> Result<(), Stop>
         ensures { Reads (read_token spec.class (spec.symbol_class symbol) (λ _. tt) self.old) result self.new }
     {
-        match self.take(symbol_class(symbol)) {
+        match self.take(TokenClass::Symbol(symbol)) {
             Some(_) => Ok(()),
             None => Err(Stop::Fault),
         }
@@ -134,7 +134,7 @@ impl<'a> Cursor<'a> {
     pub(crate) fn word(&mut self, word: Keyword) -> Result<(), Stop>
         ensures { Reads (read_token spec.class (spec.word_class word) (λ _. tt) self.old) result self.new }
     {
-        match self.take(word_class(word)) {
+        match self.take(TokenClass::Word(word)) {
             Some(_) => Ok(()),
             None => Err(Stop::Fault),
         }
@@ -144,7 +144,7 @@ impl<'a> Cursor<'a> {
     pub(crate) fn symbol_at(&mut self, symbol: Symbol) -> Result<u32, Stop>
         ensures { Reads (read_token spec.class (spec.symbol_class symbol) (λ t. t.start) self.old) result self.new }
     {
-        match self.take(symbol_class(symbol)) {
+        match self.take(TokenClass::Symbol(symbol)) {
             Some(token) => Ok(token.start),
             None => Err(Stop::Fault),
         }
@@ -153,7 +153,7 @@ impl<'a> Cursor<'a> {
     pub(crate) fn word_at(&mut self, word: Keyword) -> Result<u32, Stop>
         ensures { Reads (read_token spec.class (spec.word_class word) (λ t. t.start) self.old) result self.new }
     {
-        match self.take(word_class(word)) {
+        match self.take(TokenClass::Word(word)) {
             Some(token) => Ok(token.start),
             None => Err(Stop::Fault),
         }
@@ -163,20 +163,20 @@ impl<'a> Cursor<'a> {
     pub(crate) fn eat_symbol(&mut self, symbol: Symbol) -> bool
         ensures { Eats (spec.symbol_class symbol) self.old result self.new }
     {
-        self.take(symbol_class(symbol)).is_some()
+        self.take(TokenClass::Symbol(symbol)).is_some()
     }
 
     pub(crate) fn eat_word(&mut self, word: Keyword) -> bool
         ensures { Eats (spec.word_class word) self.old result self.new }
     {
-        self.take(word_class(word)).is_some()
+        self.take(TokenClass::Word(word)).is_some()
     }
 
     pub(crate) fn name(&mut self) -> Result<(Text, u32), Stop>
         ensures { Reads (read_token spec.class spec.name_class (λ t. (spec.text_in t.kind, t.start)) self.old) result self.new }
     {
         let alloc = self.alloc;
-        let Some(token) = self.take(NAME_CLASS) else {
+        let Some(token) = self.take(TokenClass::Name) else {
             return Err(Stop::Fault);
         };
         Ok((copied(alloc, token)?, token.start))
@@ -187,7 +187,7 @@ impl<'a> Cursor<'a> {
         ensures { Reads (read_token spec.class spec.chars_class (λ t. (spec.text_in t.kind, t.start)) self.old) result self.new }
     {
         let alloc = self.alloc;
-        let Some(token) = self.take(CHARS_CLASS) else {
+        let Some(token) = self.take(TokenClass::Text) else {
             return Err(Stop::Fault);
         };
         Ok((copied(alloc, token)?, token.start))
@@ -196,7 +196,7 @@ impl<'a> Cursor<'a> {
     pub(crate) fn number(&mut self) -> Result<(i64, u32), Stop>
         ensures { Reads (read_token spec.class spec.number_class (λ t. (spec.number_in t.kind, t.start)) self.old) result self.new }
     {
-        match self.take(NUMBER_CLASS) {
+        match self.take(TokenClass::Number) {
             Some(token) => Ok((number(token), token.start)),
             None => Err(Stop::Fault),
         }

@@ -2,10 +2,10 @@
 //! leaves the cursor at the first token that fits nowhere. The parser of scripts stands on it.
 #![tactic(auto)]
 
-mod class;
 mod columns;
 mod conditions;
 mod cursor;
+mod held;
 mod parser;
 mod preferences;
 mod statements;

@@ -9,6 +9,7 @@ ghost use Rattle.query_grammar.specs.Outcome.{nested, outcome};
 ghost use Rattle.query_reader.specs.Reads.{Reads};
 
 use crate::cursor::{Cursor, Stop};
+use crate::held::{both, pushed};
 use crate::parser::Parser;
 use prefsql_lexer::{Keyword, Symbol};
 use prefsql_values::{List, Memory};
@@ -32,8 +33,8 @@ impl Parser {
         ensures { Reads (outcome self.depth sets.edge tokens.old) result tokens.new }
     {
         let upper = self.literal(tokens)?;
-        tokens.symbol(Symbol::Greater)?;
-        let lower = self.literal(tokens)?;
+        let (upper, _) = both(upper, tokens.symbol(Symbol::Greater))?;
+        let (upper, lower) = both(upper, self.literal(tokens))?;
         Ok(EdgeTree { upper, lower })
     }
 
@@ -41,10 +42,9 @@ impl Parser {
     fn edges(self, tokens: &mut Cursor<'_>) -> Result<List<EdgeTree>, Stop>
         ensures { Reads (outcome self.depth sets.edges tokens.old) result tokens.new }
     {
-        let mut found = List::new(self.alloc);
-        found.push(self.edge(tokens)?)?;
+        let mut found = pushed(List::new(self.alloc), self.edge(tokens))?;
         'more: while tokens.eat_symbol(Symbol::Comma) {
-            found.push(self.edge(tokens)?)?;
+            found = pushed(found, self.edge(tokens))?;
         }
         Ok(found)
     }
@@ -86,13 +86,13 @@ impl Parser {
     fn otherwise(self, tokens: &mut Cursor<'_>, first: SetTree) -> Result<BaseForm, Stop>
         ensures { Reads (with_value (λ h. h first) (outcome self.depth preferences.otherwise tokens.old)) result tokens.new }
     {
-        tokens.word(Keyword::Else)?;
-        let column = self.column(tokens)?;
+        let (first, _) = both(first, tokens.word(Keyword::Else))?;
+        let (first, column) = both(first, self.column(tokens))?;
         if tokens.at_symbol(Symbol::Equal) || tokens.at_word(Keyword::In) {
-            let second = self.good_set(tokens)?;
+            let ((first, column), second) = both((first, column), self.good_set(tokens))?;
             Ok(BaseForm::PosPos(first, column, second))
         } else {
-            let second = self.bad_set(tokens)?;
+            let ((first, column), second) = both((first, column), self.bad_set(tokens))?;
             Ok(BaseForm::PosNeg(first, column, second))
         }
     }
@@ -114,8 +114,8 @@ impl Parser {
     {
         tokens.word(Keyword::Between)?;
         let low = self.literal(tokens)?;
-        tokens.word(Keyword::And)?;
-        let high = self.literal(tokens)?;
+        let (low, _) = both(low, tokens.word(Keyword::And))?;
+        let (low, high) = both(low, self.literal(tokens))?;
         Ok(BaseForm::Between(low, high))
     }
 
@@ -123,10 +123,9 @@ impl Parser {
     fn sets(self, tokens: &mut Cursor<'_>) -> Result<List<SetTree>, Stop>
         ensures { Reads (outcome self.depth sets.sets tokens.old) result tokens.new }
     {
-        let mut found = List::new(self.alloc);
-        found.push(self.set(tokens)?)?;
+        let mut found = pushed(List::new(self.alloc), self.set(tokens))?;
         'more: while tokens.eat_symbol(Symbol::Comma) {
-            found.push(self.set(tokens)?)?;
+            found = pushed(found, self.set(tokens))?;
         }
         Ok(found)
     }
@@ -150,14 +149,13 @@ impl Parser {
     ) -> Result<(List<SetTree>, Option<List<SetTree>>), Stop>
         ensures { Reads (outcome self.depth preferences.sets_and_others tokens.old) result tokens.new }
     {
-        let mut found = List::new(self.alloc);
-        found.push(self.set(tokens)?)?;
+        let mut found = pushed(List::new(self.alloc), self.set(tokens))?;
         'more: while tokens.eat_symbol(Symbol::Comma) {
             if tokens.at_word(Keyword::Others) {
-                let after = self.others(tokens)?;
-                return Ok((found, Some(after)));
+                let (before, after) = both(found, self.others(tokens))?;
+                return Ok((before, Some(after)));
             }
-            found.push(self.set(tokens)?)?;
+            found = pushed(found, self.set(tokens))?;
         }
         Ok((found, None))
     }
@@ -185,6 +183,15 @@ impl Parser {
         Ok(BaseForm::Layered(before, after))
     }
 
+    fn layers_in_parens(self, tokens: &mut Cursor<'_>) -> Result<BaseForm, Stop>
+        ensures { Reads (outcome self.depth (forms.in_parens preferences.layers_form) tokens.old) result tokens.new }
+    {
+        tokens.symbol(Symbol::LeftParen)?;
+        let layers = self.layers(tokens)?;
+        let (layers, _) = both(layers, tokens.symbol(Symbol::RightParen))?;
+        Ok(layers)
+    }
+
     #[tactic(auto, unfolding(query_grammar::specs::ReadPreferences::other_form, query_grammar::specs::ReadPreferences::good_base, query_grammar::specs::ReadPreferences::good_set, query_grammar::specs::ReadPreferences::bad_set, query_grammar::specs::ReadPreferences::between_base), using(grammar_forms::proofs::Sets::begins_more))]
     fn other_form(self, tokens: &mut Cursor<'_>) -> Result<BaseForm, Stop>
         ensures { Reads (outcome self.depth preferences.other_form tokens.old) result tokens.new }
@@ -202,10 +209,7 @@ impl Parser {
             return self.between_literals(tokens);
         }
         tokens.word(Keyword::Layered)?;
-        tokens.symbol(Symbol::LeftParen)?;
-        let layers = self.layers(tokens)?;
-        tokens.symbol(Symbol::RightParen)?;
-        Ok(layers)
+        self.layers_in_parens(tokens)
     }
 
     #[tactic(auto, unfolding(query_grammar::specs::ReadPreferences::graph_form))]
@@ -215,7 +219,7 @@ impl Parser {
         tokens.word(Keyword::Explicit)?;
         tokens.symbol(Symbol::LeftParen)?;
         let edges = self.edges(tokens)?;
-        tokens.symbol(Symbol::RightParen)?;
+        let (edges, _) = both(edges, tokens.symbol(Symbol::RightParen))?;
         tokens.eat_word(Keyword::Trivial);
         Ok(edges)
     }
@@ -227,7 +231,7 @@ impl Parser {
         let column = self.column(tokens)?;
         let at = column.at;
         if tokens.at_word(Keyword::Explicit) {
-            let edges = self.graph(tokens)?;
+            let (column, edges) = both(column, self.graph(tokens))?;
             return Ok(BaseTree {
                 column,
                 form: BaseForm::Explicit(edges),
@@ -235,7 +239,7 @@ impl Parser {
                 at,
             });
         }
-        let form = self.other_form(tokens)?;
+        let (column, form) = both(column, self.other_form(tokens))?;
         let trivial = self.mark(tokens);
         Ok(BaseTree {
             column,
@@ -310,7 +314,7 @@ impl Parser {
     {
         if tokens.eat_symbol(Symbol::LeftParen) {
             let inner = self.nested_preference(tokens)?;
-            tokens.symbol(Symbol::RightParen)?;
+            let (inner, _) = both(inner, tokens.symbol(Symbol::RightParen))?;
             return Ok(inner);
         }
         Ok(PrefTree::Base(self.base(tokens)?))
@@ -321,10 +325,9 @@ impl Parser {
     fn primaries(self, tokens: &mut Cursor<'_>) -> Result<List<PrefTree>, Stop>
         ensures { Reads (outcome self.depth preferences.primaries tokens.old) result tokens.new }
     {
-        let mut found = List::new(self.alloc);
-        found.push(self.primary(tokens)?)?;
+        let mut found = pushed(List::new(self.alloc), self.primary(tokens))?;
         'more: while tokens.eat_word(Keyword::And) {
-            found.push(self.primary(tokens)?)?;
+            found = pushed(found, self.primary(tokens))?;
         }
         Ok(found)
     }
@@ -342,10 +345,9 @@ impl Parser {
     fn cascade(self, tokens: &mut Cursor<'_>) -> Result<List<PrefTree>, Stop>
         ensures { Reads (outcome self.depth preferences.cascade tokens.old) result tokens.new }
     {
-        let mut found = List::new(self.alloc);
-        found.push(self.pareto(tokens)?)?;
+        let mut found = pushed(List::new(self.alloc), self.pareto(tokens))?;
         'more: while tokens.eat_word(Keyword::Cascade) {
-            found.push(self.pareto(tokens)?)?;
+            found = pushed(found, self.pareto(tokens))?;
         }
         Ok(found)
     }

@@ -4,10 +4,13 @@ ghost use Rattle.std.specs.Prelude.{◌≡◌, Ok};
 ghost use Rattle.query_grammar.specs.Columns as columns;
 ghost use Rattle.query_grammar.specs.Items as items;
 ghost use Rattle.query_grammar.specs.ReadStatements as statements;
+ghost use Rattle.grammar_forms.specs.Form.{option};
+ghost use Rattle.query_grammar.specs.Trees.{query_tree};
 ghost use Rattle.query_grammar.specs.Outcome.{outcome};
 ghost use Rattle.query_reader.specs.Reads.{Reads};
 
 use crate::cursor::{Cursor, Stop};
+use crate::held::{both, pushed};
 use crate::parser::Parser;
 use prefsql_lexer::{Keyword, Symbol};
 use prefsql_values::{List, Text};
@@ -17,6 +20,9 @@ use query_tree::{
 };
 
 const MAX_STATEMENTS: usize = 64;
+
+/// What is preferred, by which groups, and what is then kept.
+type Preferred = (PrefTree, (List<NameTree>, Option<CondTree>));
 
 impl Parser {
     /// `[[AS] name]`
@@ -51,7 +57,8 @@ impl Parser {
         ensures { Reads (outcome self.depth items.item tokens.old) result tokens.new }
     {
         let value = self.item_value(tokens)?;
-        let name = match self.alias(tokens)? {
+        let (value, alias) = both(value, self.alias(tokens))?;
+        let name = match alias {
             None => None,
             Some((text, _)) => Some(text),
         };
@@ -62,10 +69,9 @@ impl Parser {
     fn items(self, tokens: &mut Cursor<'_>) -> Result<List<ItemTree>, Stop>
         ensures { Reads (outcome self.depth items.items tokens.old) result tokens.new }
     {
-        let mut found = List::new(self.alloc);
-        found.push(self.item(tokens)?)?;
+        let mut found = pushed(List::new(self.alloc), self.item(tokens))?;
         'more: while tokens.eat_symbol(Symbol::Comma) {
-            found.push(self.item(tokens)?)?;
+            found = pushed(found, self.item(tokens))?;
         }
         Ok(found)
     }
@@ -85,7 +91,8 @@ impl Parser {
         ensures { Reads (outcome self.depth items.from tokens.old) result tokens.new }
     {
         let (table, at) = tokens.name()?;
-        match self.alias(tokens)? {
+        let (table, alias) = both(table, self.alias(tokens))?;
+        match alias {
             None => Ok(FromTree {
                 table,
                 name: None,
@@ -105,10 +112,9 @@ impl Parser {
     fn from_items(self, tokens: &mut Cursor<'_>) -> Result<List<FromTree>, Stop>
         ensures { Reads (outcome self.depth items.from_items tokens.old) result tokens.new }
     {
-        let mut found = List::new(self.alloc);
-        found.push(self.from_item(tokens)?)?;
+        let mut found = pushed(List::new(self.alloc), self.from_item(tokens))?;
         'more: while tokens.eat_symbol(Symbol::Comma) {
-            found.push(self.from_item(tokens)?)?;
+            found = pushed(found, self.from_item(tokens))?;
         }
         Ok(found)
     }
@@ -150,10 +156,9 @@ impl Parser {
     fn order_items(self, tokens: &mut Cursor<'_>) -> Result<List<OrderTree>, Stop>
         ensures { Reads (outcome self.depth columns.orders tokens.old) result tokens.new }
     {
-        let mut found = List::new(self.alloc);
-        found.push(self.order_item(tokens)?)?;
+        let mut found = pushed(List::new(self.alloc), self.order_item(tokens))?;
         'more: while tokens.eat_symbol(Symbol::Comma) {
-            found.push(self.order_item(tokens)?)?;
+            found = pushed(found, self.order_item(tokens))?;
         }
         Ok(found)
     }
@@ -162,10 +167,9 @@ impl Parser {
     fn columns(self, tokens: &mut Cursor<'_>) -> Result<List<NameTree>, Stop>
         ensures { Reads (outcome self.depth columns.columns tokens.old) result tokens.new }
     {
-        let mut found = List::new(self.alloc);
-        found.push(self.column(tokens)?)?;
+        let mut found = pushed(List::new(self.alloc), self.column(tokens))?;
         'more: while tokens.eat_symbol(Symbol::Comma) {
-            found.push(self.column(tokens)?)?;
+            found = pushed(found, self.column(tokens))?;
         }
         Ok(found)
     }
@@ -213,17 +217,24 @@ impl Parser {
     }
 
     #[tactic(auto, unfolding(query_grammar::specs::ReadStatements::prefer_form))]
-    fn prefer(
-        self,
-        tokens: &mut Cursor<'_>,
-    ) -> Result<(PrefTree, (List<NameTree>, Option<CondTree>)), Stop>
+    fn prefer(self, tokens: &mut Cursor<'_>) -> Result<Preferred, Stop>
         ensures { Reads (outcome self.depth statements.prefer_form tokens.old) result tokens.new }
     {
         tokens.word(Keyword::Preferring)?;
         let preference = self.preference(tokens)?;
-        let groups = self.groups(tokens)?;
-        let only = self.only(tokens)?;
+        let (preference, groups) = both(preference, self.groups(tokens))?;
+        let ((preference, groups), only) = both((preference, groups), self.only(tokens))?;
         Ok((preference, (groups, only)))
+    }
+
+    #[tactic(auto, unfolding(query_grammar::specs::ReadStatements::prefer_form))]
+    fn preferred(self, tokens: &mut Cursor<'_>) -> Result<Option<Preferred>, Stop>
+        ensures { Reads (outcome self.depth (option statements.prefer_form) tokens.old) result tokens.new }
+    {
+        if tokens.at_word(Keyword::Preferring) {
+            return Ok(Some(self.prefer(tokens)?));
+        }
+        Ok(None)
     }
 
     #[tactic(auto, unfolding(query_grammar::specs::Items::distinctness))]
@@ -240,13 +251,30 @@ impl Parser {
         tokens.word(Keyword::Select)?;
         let distinct = self.distinctness(tokens);
         let select = self.select_list(tokens)?;
-        tokens.word(Keyword::From)?;
-        let from = self.from_items(tokens)?;
-        let filter = self.filter(tokens)?;
-        if tokens.at_word(Keyword::Preferring) {
-            let (prefer, (groups, only)) = self.prefer(tokens)?;
-            let order = self.ordering(tokens)?;
-            return Ok(QueryTree {
+        let (select, _) = both(select, tokens.word(Keyword::From))?;
+        let (select, from) = both(select, self.from_items(tokens))?;
+        let (head, filter) = both((select, from), self.filter(tokens))?;
+        let (head, preferred) = both((head, filter), self.preferred(tokens))?;
+        let ((((select, from), filter), preferred), order) = both(
+            (head, preferred),
+            self.ordering(tokens),
+        )?;
+        Ok(self.query(distinct, select, from, filter, preferred, order))
+    }
+
+    fn query(
+        self,
+        distinct: bool,
+        select: SelectTree,
+        from: List<FromTree>,
+        filter: Option<CondTree>,
+        preferred: Option<Preferred>,
+        order: List<OrderTree>,
+    ) -> QueryTree
+        ensures { result ≡ query_tree (distinct, (select, (from, (filter, (preferred, order))))) }
+    {
+        match preferred {
+            Some((prefer, (groups, only))) => QueryTree {
                 distinct,
                 select,
                 from,
@@ -255,19 +283,18 @@ impl Parser {
                 groups,
                 only,
                 order,
-            });
+            },
+            None => QueryTree {
+                distinct,
+                select,
+                from,
+                filter,
+                prefer: None,
+                groups: List::new(self.alloc),
+                only: None,
+                order,
+            },
         }
-        let order = self.ordering(tokens)?;
-        Ok(QueryTree {
-            distinct,
-            select,
-            from,
-            filter,
-            prefer: None,
-            groups: List::new(self.alloc),
-            only: None,
-            order,
-        })
     }
 
     /// The statements, and whether these are so many that no more may follow.
@@ -279,7 +306,7 @@ impl Parser {
             if !tokens.at_word(Keyword::Select) {
                 return Ok((found, false));
             }
-            found.push(self.statement(tokens)?)?;
+            found = pushed(found, self.statement(tokens))?;
             if !tokens.eat_symbol(Symbol::Semicolon) {
                 return Ok((found, false));
             }

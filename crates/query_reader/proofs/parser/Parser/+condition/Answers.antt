@@ -1,22 +1,22 @@
 use Rattle.query_grammar.specs.Forms.{condition_rule}
 use Rattle.query_grammar.specs.ReadConditions.{negated, conjuncts, conjunction, disjuncts}
-use Rattle.query_reader.proofs.Turns.{separated_more, separated_less, nested_none, nested_some}
+use Rattle.query_reader.proofs.Turns.{pushed_more, pushed_less, nested_none, nested_some}
 use Rattle.query_grammar.proofs.Predictive.{predictive-negated, predictive-conjunction}
 use Rattle.query_reader.proofs.parser.Parser.+condition.Goals as goal
 
 pub conjuncts-more-smaller : goal.conjuncts-more-smaller
-conjuncts-more-smaller t c = separated_less c.args.self.depth _ (negated c.args.qualities) (predictive-negated c.args.qualities) _ _ _ _ c.more-test.ensures.1 c.in_ok-negated-2.ensures
+conjuncts-more-smaller t c = pushed_less c.args.self.depth _ (negated c.args.qualities) (predictive-negated c.args.qualities) _ _ c.negated-in-more.new.tokens c.more.found _ c.negated-in-more.result c.more-test.ensures.1 c.in_ok-found-2.ensures c.negated-in-more.ensures
 
 pub conjuncts-more-preserved : goal.conjuncts-more-preserved
 unfolding conjuncts
-conjuncts-more-preserved t c = separated_more c.args.self.depth _ (negated c.args.qualities) (predictive-negated c.args.qualities) c.more.tokens c.eat_word.new.self _ c.more.found _ _ c.more.invariant c.more-test.ensures c.in_ok-negated-2.ensures c.in_ok-push-2.ensures.ok
+conjuncts-more-preserved t c = pushed_more c.args.self.depth _ (negated c.args.qualities) (predictive-negated c.args.qualities) c.more.tokens c.eat_word.new.self c.negated-in-more.new.tokens c.more.found _ c.negated-in-more.result c.more.invariant c.more-test.ensures c.in_ok-found-2.ensures c.negated-in-more.ensures
 
 pub disjuncts-more-smaller : goal.disjuncts-more-smaller
-disjuncts-more-smaller t c = separated_less c.args.self.depth _ (conjunction c.args.qualities) (predictive-conjunction c.args.qualities) _ _ _ _ c.more-test.ensures.1 c.in_ok-conjunction-2.ensures
+disjuncts-more-smaller t c = pushed_less c.args.self.depth _ (conjunction c.args.qualities) (predictive-conjunction c.args.qualities) _ _ c.conjunction-in-more.new.tokens c.more.found _ c.conjunction-in-more.result c.more-test.ensures.1 c.in_ok-found-2.ensures c.conjunction-in-more.ensures
 
 pub disjuncts-more-preserved : goal.disjuncts-more-preserved
 unfolding disjuncts
-disjuncts-more-preserved t c = separated_more c.args.self.depth _ (conjunction c.args.qualities) (predictive-conjunction c.args.qualities) c.more.tokens c.eat_word.new.self _ c.more.found _ _ c.more.invariant c.more-test.ensures c.in_ok-conjunction-2.ensures c.in_ok-push-2.ensures.ok
+disjuncts-more-preserved t c = pushed_more c.args.self.depth _ (conjunction c.args.qualities) (predictive-conjunction c.args.qualities) c.more.tokens c.eat_word.new.self c.conjunction-in-more.new.tokens c.more.found _ c.conjunction-in-more.result c.more.invariant c.more-test.ensures c.in_ok-found-2.ensures c.conjunction-in-more.ensures
 
 pub nested_condition-returns-then-self-eq0 : goal.nested_condition-returns-then-self-eq0
 nested_condition-returns-then-self-eq0 t c = nested_none c.args.self.depth c.if-self-eq0.true (condition_rule c.args.qualities) c.args.tokens.now

@@ -1,22 +1,22 @@
 use Rattle.query_grammar.specs.Forms.{preference_rule}
 use Rattle.query_grammar.specs.ReadPreferences.{primary, primaries, pareto, cascade}
-use Rattle.query_reader.proofs.Turns.{separated_more, separated_less, nested_none, nested_some}
+use Rattle.query_reader.proofs.Turns.{pushed_more, pushed_less, nested_none, nested_some}
 use Rattle.query_grammar.proofs.Predictive.{predictive-primary, predictive-pareto}
 use Rattle.query_reader.proofs.parser.Parser.+preference.Goals as goal
 
 pub primaries-more-smaller : goal.primaries-more-smaller
-primaries-more-smaller t c = separated_less c.args.self.depth _ primary predictive-primary _ _ _ _ c.more-test.ensures.1 c.in_ok-primary-2.ensures
+primaries-more-smaller t c = pushed_less c.args.self.depth _ primary predictive-primary _ _ c.primary-in-more.new.tokens c.more.found _ c.primary-in-more.result c.more-test.ensures.1 c.in_ok-found-2.ensures c.primary-in-more.ensures
 
 pub primaries-more-preserved : goal.primaries-more-preserved
 unfolding primaries
-primaries-more-preserved t c = separated_more c.args.self.depth _ primary predictive-primary c.more.tokens c.eat_word.new.self _ c.more.found _ _ c.more.invariant c.more-test.ensures c.in_ok-primary-2.ensures c.in_ok-push-2.ensures.ok
+primaries-more-preserved t c = pushed_more c.args.self.depth _ primary predictive-primary c.more.tokens c.eat_word.new.self c.primary-in-more.new.tokens c.more.found _ c.primary-in-more.result c.more.invariant c.more-test.ensures c.in_ok-found-2.ensures c.primary-in-more.ensures
 
 pub cascade-more-smaller : goal.cascade-more-smaller
-cascade-more-smaller t c = separated_less c.args.self.depth _ pareto predictive-pareto _ _ _ _ c.more-test.ensures.1 c.in_ok-pareto-2.ensures
+cascade-more-smaller t c = pushed_less c.args.self.depth _ pareto predictive-pareto _ _ c.pareto-in-more.new.tokens c.more.found _ c.pareto-in-more.result c.more-test.ensures.1 c.in_ok-found-2.ensures c.pareto-in-more.ensures
 
 pub cascade-more-preserved : goal.cascade-more-preserved
 unfolding cascade
-cascade-more-preserved t c = separated_more c.args.self.depth _ pareto predictive-pareto c.more.tokens c.eat_word.new.self _ c.more.found _ _ c.more.invariant c.more-test.ensures c.in_ok-pareto-2.ensures c.in_ok-push-2.ensures.ok
+cascade-more-preserved t c = pushed_more c.args.self.depth _ pareto predictive-pareto c.more.tokens c.eat_word.new.self c.pareto-in-more.new.tokens c.more.found _ c.pareto-in-more.result c.more.invariant c.more-test.ensures c.in_ok-found-2.ensures c.pareto-in-more.ensures
 
 pub nested_preference-returns-then-self-eq0 : goal.nested_preference-returns-then-self-eq0
 nested_preference-returns-then-self-eq0 t c = nested_none c.args.self.depth c.if-self-eq0.true preference_rule c.args.tokens.now

@@ -1,11 +1,11 @@
 use Rattle.query_grammar.specs.Items.{from, from_items}
-use Rattle.query_reader.proofs.Turns.{separated_more, separated_less}
+use Rattle.query_reader.proofs.Turns.{pushed_more, pushed_less}
 use Rattle.query_grammar.proofs.Predictive.{predictive-from_item}
 use Rattle.query_reader.proofs.parser.Parser.from_items.Goals as goal
 
 pub more-smaller : goal.more-smaller
-more-smaller c = separated_less c.args.self.depth _ (from) (predictive-from_item) _ _ _ _ c.more-test.ensures.1 c.in_ok-from_item-2.ensures
+more-smaller c = pushed_less c.args.self.depth _ (from) (predictive-from_item) _ _ c.from_item-in-more.new.tokens c.more.found _ c.from_item-in-more.result c.more-test.ensures.1 c.in_ok-found-2.ensures c.from_item-in-more.ensures
 
 pub more-preserved : goal.more-preserved
 unfolding from_items
-more-preserved c = separated_more c.args.self.depth _ (from) (predictive-from_item) c.more.tokens c.eat_symbol.new.self _ c.more.found _ _ c.more.invariant c.more-test.ensures c.in_ok-from_item-2.ensures c.in_ok-push-2.ensures.ok
+more-preserved c = pushed_more c.args.self.depth _ (from) (predictive-from_item) c.more.tokens c.eat_symbol.new.self c.from_item-in-more.new.tokens c.more.found _ c.from_item-in-more.result c.more.invariant c.more-test.ensures c.in_ok-found-2.ensures c.from_item-in-more.ensures

@@ -1,22 +1,29 @@
 use Rattle.std.proofs.Common.{sym, arith}
 use Rattle.std.proofs.lemmas.Result.{err_from_is_err_and}
+use Rattle.query_grammar.specs.Outcome.{outcome}
+use Rattle.query_grammar.specs.ReadStatements.{statement_form}
+use Rattle.query_reader.proofs.Kept.{pushed_read, pushed_err}
 use Rattle.query_reader.proofs.Scripts.{script_stop, script_err, script_last, script_more, script_full}
 use Rattle.query_reader.proofs.parser.Parser.script.Goals as goal
 
 pub returns-then-not-at_word : goal.returns-then-not-at_word
 returns-then-not-at_word c = script_stop c.args.self.depth c.more._turn c.more.tokens c.more.found c.more.invariant (omega arith) (sym c.if-not-at_word.ensures)
 
-pub returns-in_err-statement : goal.returns-in_err-statement
-returns-in_err-statement c =
+pub returns-in_err-found : goal.returns-in_err-found
+returns-in_err-found c =
     let p = err_from_is_err_and c.from_residual.result c.from_residual.ensures.1 in
-    rw (p.1, p.2) (script_err c.args.self.depth c.more._turn c.more.tokens c.more.found c.more.invariant _ _ (omega arith) (sym c.if-not-at_word.ensures) c.in_err-statement.ensures)
+    let read = pushed_err (outcome c.args.self.depth statement_form c.more.tokens) c.statement.result c.statement.new.tokens c.more.found _ c.in_err-found.ensures c.statement.ensures in
+    rw (p.1, p.2) (script_err c.args.self.depth c.more._turn c.more.tokens c.more.found c.more.invariant _ _ (omega arith) (sym c.if-not-at_word.ensures) read)
 
 pub returns-then-not-eat_symbol : goal.returns-then-not-eat_symbol
 returns-then-not-eat_symbol c =
-    rw c.if-not-eat_symbol.ensures.1 (script_last c.args.self.depth c.more._turn c.more.tokens c.more.found c.more.invariant _ c.in_ok-statement.field-0 _ (omega arith) (sym c.if-not-at_word.ensures) c.in_ok-statement.ensures c.in_ok-push.ensures.ok c.if-not-eat_symbol.ensures.0)
+    let read = pushed_read (outcome c.args.self.depth statement_form c.more.tokens) c.statement.result c.statement.new.tokens c.more.found _ c.in_ok-found.ensures c.statement.ensures in
+    rw c.if-not-eat_symbol.ensures.1 (script_last c.args.self.depth c.more._turn c.more.tokens c.more.found c.more.invariant _ read.0 _ (omega arith) (sym c.if-not-at_word.ensures) read.1 read.2 c.if-not-eat_symbol.ensures.0)
 
 pub more-preserved : goal.more-preserved
-more-preserved c = script_more c.args.self.depth c.more._turn c.more.tokens c.more.found c.more.invariant c.statement.new.tokens _ c.in_ok-statement.field-0 _ (omega arith) (sym c.if-not-at_word.ensures) c.in_ok-statement.ensures c.in_ok-push.ensures.ok c.if-not-eat_symbol.ensures
+more-preserved c =
+    let read = pushed_read (outcome c.args.self.depth statement_form c.more.tokens) c.statement.result c.statement.new.tokens c.more.found _ c.in_ok-found.ensures c.statement.ensures in
+    script_more c.args.self.depth c.more._turn c.more.tokens c.more.found c.more.invariant c.statement.new.tokens _ read.0 _ (omega arith) (sym c.if-not-at_word.ensures) read.1 read.2 c.if-not-eat_symbol.ensures
 
 pub returns : goal.returns
 returns c = script_full c.args.self.depth c.more._turn c.more.tokens c.more.found c.more.invariant (omega arith)

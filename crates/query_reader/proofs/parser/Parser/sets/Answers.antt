@@ -1,11 +1,11 @@
 use Rattle.query_grammar.specs.Sets.{set, sets}
-use Rattle.query_reader.proofs.Turns.{separated_more, separated_less}
+use Rattle.query_reader.proofs.Turns.{pushed_more, pushed_less}
 use Rattle.query_grammar.proofs.Predictive.{predictive-set}
 use Rattle.query_reader.proofs.parser.Parser.sets.Goals as goal
 
 pub more-smaller : goal.more-smaller
-more-smaller c = separated_less c.args.self.depth _ (set) (predictive-set) _ _ _ _ c.more-test.ensures.1 c.in_ok-set-2.ensures
+more-smaller c = pushed_less c.args.self.depth _ (set) (predictive-set) _ _ c.set-in-more.new.tokens c.more.found _ c.set-in-more.result c.more-test.ensures.1 c.in_ok-found-2.ensures c.set-in-more.ensures
 
 pub more-preserved : goal.more-preserved
 unfolding sets
-more-preserved c = separated_more c.args.self.depth _ (set) (predictive-set) c.more.tokens c.eat_symbol.new.self _ c.more.found _ _ c.more.invariant c.more-test.ensures c.in_ok-set-2.ensures c.in_ok-push-2.ensures.ok
+more-preserved c = pushed_more c.args.self.depth _ (set) (predictive-set) c.more.tokens c.eat_symbol.new.self c.set-in-more.new.tokens c.more.found _ c.set-in-more.result c.more.invariant c.more-test.ensures c.in_ok-found-2.ensures c.set-in-more.ensures

@@ -1,18 +1,60 @@
-//! The numbers by which a grammar tells tokens apart.
+//! The classes by which a grammar tells tokens apart.
 
-ghost use Rattle.std.specs.Prelude.{◌≡◌};
+ghost use Rattle.std.specs.Prelude.{◌≡◌, ◌==◌};
 ghost use Rattle.query_grammar.specs.Classes as spec;
 
 use prefsql_lexer::{Keyword, Symbol, Token, TokenKind};
 
-pub(crate) const NAME_CLASS: u8 = 0;
+/// What a grammar sees of a token: its kind, and for a symbol or a reserved word which one it is.
+#[derive(Clone, Copy, Debug)]
+pub enum TokenClass {
+    /// An identifier that is no reserved word.
+    Name,
+    /// A number without a sign.
+    Number,
+    /// A text in quotes.
+    Text,
+    Symbol(Symbol),
+    Word(Keyword),
+}
 
-pub(crate) const NUMBER_CLASS: u8 = 1;
+impl TokenClass {
+    /// The class of the token.
+    pub fn of(token: &Token) -> TokenClass
+        ensures { result ≡ spec.class_of token.now }
+    {
+        match &token.kind {
+            TokenKind::Word(word) => TokenClass::Word(*word),
+            TokenKind::Name(_) => TokenClass::Name,
+            TokenKind::Number(_) => TokenClass::Number,
+            TokenKind::Chars(_) => TokenClass::Text,
+            TokenKind::Symbol(symbol) => TokenClass::Symbol(*symbol),
+        }
+    }
 
-pub(crate) const CHARS_CLASS: u8 = 2;
+    /// Whether the token is of this class.
+    pub fn has(self, token: &Token) -> bool
+        ensures { result ≡ (spec.class token.now == spec.number_of self) }
+    {
+        TokenClass::of(token).number() == self.number()
+    }
 
-pub(crate) fn symbol_class(symbol: Symbol) -> u8
-    ensures { result ≡ spec.symbol_class symbol }
+    /// A number that no other class has.
+    fn number(self) -> u8
+        ensures { result ≡ spec.number_of self }
+    {
+        match self {
+            TokenClass::Name => 0,
+            TokenClass::Number => 1,
+            TokenClass::Text => 2,
+            TokenClass::Symbol(symbol) => symbol_number(symbol),
+            TokenClass::Word(word) => word_number(word),
+        }
+    }
+}
+
+fn symbol_number(symbol: Symbol) -> u8
+    ensures { result ≡ spec.symbol_number symbol }
 {
     match symbol {
         Symbol::LeftParen => 3,
@@ -32,8 +74,8 @@ pub(crate) fn symbol_class(symbol: Symbol) -> u8
     }
 }
 
-pub(crate) fn word_class(word: Keyword) -> u8
-    ensures { result ≡ spec.word_class word }
+fn word_number(word: Keyword) -> u8
+    ensures { result ≡ spec.word_number word }
 {
     match word {
         Keyword::And => 17,
@@ -76,17 +118,5 @@ pub(crate) fn word_class(word: Keyword) -> u8
         Keyword::Trivial => 54,
         Keyword::When => 55,
         Keyword::Where => 56,
-    }
-}
-
-pub(crate) fn token_class(token: &Token) -> u8
-    ensures { result ≡ spec.class token.now }
-{
-    match &token.kind {
-        TokenKind::Word(word) => word_class(*word),
-        TokenKind::Name(_) => NAME_CLASS,
-        TokenKind::Number(_) => NUMBER_CLASS,
-        TokenKind::Chars(_) => CHARS_CLASS,
-        TokenKind::Symbol(symbol) => symbol_class(*symbol),
     }
 }
