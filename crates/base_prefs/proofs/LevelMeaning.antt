@@ -79,7 +79,7 @@ layer_meaning before after v =
       ])
     ]
 
-greatest_attained : (f : Value → ℕ) (vs : List Value) → 0 < length vs → (v : Value) × Among vs v × (f v ≡ greatest (map f vs))
+pub greatest_attained : (f : Value → ℕ) (vs : List Value) → 0 < length vs → (v : Value) × Among vs v × (f v ≡ greatest (map f vs))
 greatest_attained f [] h = absurd (omega arith)
 greatest_attained f (v ∷ []) h = (v, inl refl, omega arith)
 greatest_attained f (v ∷ w ∷ vs) h =

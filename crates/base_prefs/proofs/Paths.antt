@@ -52,7 +52,7 @@ last_edge : (edges : List Edge) (n : ℕ) (u v : Value) → IsPath edges (suc n)
 last_edge edges zero u v p = (u, refl, subst (λ x. HasEdge edges u x) p.2 p.1)
 last_edge edges (suc n) u v p = let rest = last_edge edges n p.0 v p.2 in (rest.0, (p.0, p.1, rest.1), rest.2)
 
-greatest_found : (f : Edge → ℕ) (edges : List Edge) → (greatest (map f edges) ≡ 0) ⊎ ((e : Edge) × Among edges e × (f e ≡ greatest (map f edges)))
+pub greatest_found : (f : Edge → ℕ) (edges : List Edge) → (greatest (map f edges) ≡ 0) ⊎ ((e : Edge) × Among edges e × (f e ≡ greatest (map f edges)))
 greatest_found f [] = inl refl
 greatest_found f (d ∷ ds) =
     ⊎_elim
