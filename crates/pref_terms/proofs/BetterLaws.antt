@@ -7,10 +7,9 @@ use Rattle.std.proofs.lemmas.Bool.{false≢true}
 use Rattle.std.proofs.lemmas.Bool.Decides.{Decides-and, Decides-or}
 use Rattle.std.proofs.lemmas.Cmp.{int_ranked}
 use Rattle.std.proofs.lemmas.Int.{ints}
-use Rattle.std.proofs.lemmas.List.Elements.{All-head}
+use Rattle.std.proofs.lemmas.List.Elements.{All-append, All-cons, All-head, All-nil}
 use Rattle.prefsql_values.specs.declared.value.Value.{Value}
 use Rattle.prefsql_values.proofs.ValueEq.{value_eq-Decides}
-use Rattle.prefsql_tables.specs.Sight.{Sight}
 use Rattle.base_prefs.specs.declared.kind.Kind.{Kind}
 use Rattle.base_prefs.specs.Kind.{IsSame, key_of, same_of}
 use Rattle.base_prefs.specs.KindLimits.{IsSound}
@@ -21,7 +20,7 @@ use Rattle.pref_terms.specs.declared.term.Term as term
 use Rattle.pref_terms.specs.declared.term.Term.TheOpen.{Term-F}
 use Rattle.pref_terms.specs.declared.term.Term.TheFolds.{rec-roll-Term}
 use Rattle.pref_terms.specs.declared.term.Term.TheViews.{rolls-Leaf, rolls-Pareto, rolls-Prior}
-use Rattle.pref_terms.specs.Betters.{IsSoundLeaf, Relation, leaf_relation, pareto_relation, prior_relation, relation_of, relation_step}
+use Rattle.pref_terms.specs.Betters.{IsDecidedBy, IsSoundLeaf, Relation, leaf_relation, pareto_relation, prior_relation, relation_of, relation_step}
 use Rattle.pref_terms.specs.Equations.{leaves_of-Leaf, leaves_of-Pareto, leaves_of-Prior, order_of-Leaf, order_of-Pareto, order_of-Prior}
 use Rattle.pref_terms.specs.Induction.{term_induction}
 use Rattle.pref_terms.specs.TermLaws.{All-first, All-second}
@@ -50,11 +49,6 @@ equal_cases a b Greater m = (λ h. absurd (false≢true h), λ h. absurd (omega 
 same_of-Decides : (kind : Kind) (trivial : Bool) (y x : Value) → Decides (same_of kind trivial y x) (IsSame kind trivial y x)
 same_of-Decides kind true y x = value_eq-Decides y x
 same_of-Decides kind false y x = equal_cases (key_of kind y) (key_of kind x) (int_cmp (key_of kind y) (key_of kind x)) (int_ranked (key_of kind y) (key_of kind x) (int_cmp (key_of kind y) (key_of kind x)) refl)
-
--- the order decides the relation
-pub record IsDecidedBy (relation : Relation) (order : Order) : Type 0 where
-  pub better : (y x : Sight) → Decides (order.better y x) (relation.better y x)
-  pub same : (y x : Sight) → Decides (order.same y x) (relation.same y x)
 
 abbrev pub IsTermDecided : Term → Type 0
 IsTermDecided t = All IsSoundLeaf (leaves_of t) → IsDecidedBy (relation_of t) (order_of t)
@@ -96,3 +90,15 @@ prior_decided p q first second sound =
 -- the order of a term decides its relation
 pub term_decided : (t : Term) → IsTermDecided t
 term_decided = term_induction IsTermDecided leaf_decided pareto_decided prior_decided
+
+-- the leaves of both parts are the leaves of a term
+pub sound-Leaf : (t : Term) (leaf : Leaf) → t ≡ term.Leaf leaf → IsSoundLeaf leaf → All IsSoundLeaf (leaves_of t)
+sound-Leaf t leaf is sound = rw (is, leaves_of-Leaf leaf) (All-cons IsSoundLeaf leaf [] sound (All-nil IsSoundLeaf))
+
+pub sound-Pareto : (t p q : Term) → t ≡ Pareto p q → All IsSoundLeaf (leaves_of p) → All IsSoundLeaf (leaves_of q) → All IsSoundLeaf (leaves_of t)
+sound-Pareto t p q is first second = rw (is, leaves_of-Pareto p q) (All-append IsSoundLeaf (leaves_of p) (leaves_of q) first second)
+
+pub sound-Prior : (t p q : Term) → t ≡ Prior p q → All IsSoundLeaf (leaves_of p) → All IsSoundLeaf (leaves_of q) → All IsSoundLeaf (leaves_of t)
+sound-Prior t p q is first second = rw (is, leaves_of-Prior p q) (All-append IsSoundLeaf (leaves_of p) (leaves_of q) first second)
+
+pub ruleset sounds = (sound-Leaf, sound-Pareto, sound-Prior)

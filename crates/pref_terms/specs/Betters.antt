@@ -2,9 +2,11 @@
 -- relation of each base preference at the leaves (Pareto and prioritised preferences: Kießling, VLDB
 -- 2002).
 use Rattle.std.specs.Prelude.{◌⊎◌}
+use Rattle.std.proofs.Common.{Decides}
 use Rattle.prefsql_tables.specs.Sight.{Sight}
 use Rattle.base_prefs.specs.Kind.{IsBetter, IsSame}
 use Rattle.base_prefs.specs.KindLimits.{IsSound}
+use Rattle.pref_terms.specs.Terms.{Order}
 use Rattle.pref_terms.specs.declared.term.Leaf.{Leaf}
 use Rattle.pref_terms.specs.declared.term.Term.{Term}
 use Rattle.pref_terms.specs.declared.term.Term.TheOpen.{Term-F}
@@ -54,3 +56,8 @@ IsSameByTerm term y x = (relation_of term).same y x
 -- the base preference of the leaf keeps its limits, as each one does
 abbrev pub IsSoundLeaf : Leaf → Type 0
 IsSoundLeaf leaf = IsSound leaf.base
+
+-- the tests of the order decide what the relation says
+pub record IsDecidedBy (relation : Relation) (order : Order) : Type 0 where
+  pub better : (y x : Sight) → Decides (order.better y x) (relation.better y x)
+  pub same : (y x : Sight) → Decides (order.same y x) (relation.same y x)

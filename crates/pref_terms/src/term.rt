@@ -1,4 +1,6 @@
-ghost use Rattle.std.specs.Prelude.{◌≡◌, IfOk};
+ghost use Rattle.std.specs.Prelude.{◌≡◌, All, IfOk};
+ghost use Rattle.pref_terms.specs.Betters.{IsDecidedBy, IsSoundLeaf, relation_of};
+ghost use Rattle.pref_terms.specs.Terms.{leaves_of, order_of};
 
 use base_prefs::BasePref;
 use prefsql_tables::ColumnPlace;
@@ -31,6 +33,12 @@ pub enum Term {
 }
 
 impl Leaf {
+    fn keeps_limits(&self)
+        ensures { IsSoundLeaf self.now }
+    {
+        self.base.keeps_limits()
+    }
+
     /// An equal leaf, or want of memory.
     pub(crate) fn copy(&self, alloc: Global) -> Result<Leaf, Memory>
         ensures { IfOk result (λ leaf. leaf ≡ self.now) }
@@ -45,6 +53,33 @@ impl Leaf {
 }
 
 impl Term {
+    /// The base preference of each leaf keeps its limits. A law, with no effect.
+    #[tactic(auto, using(crate::proofs::BetterLaws::sounds))]
+    pub fn keeps_limits(&self)
+        ensures { All IsSoundLeaf (leaves_of self.now) }
+    {
+        match self {
+            Term::Leaf(leaf) => leaf.keeps_limits(),
+            Term::Pareto(first, second) => {
+                first.get().keeps_limits();
+                second.get().keeps_limits()
+            }
+            Term::Prior(first, second) => {
+                first.get().keeps_limits();
+                second.get().keeps_limits()
+            }
+        }
+    }
+
+    /// What is computed for this term decides which of two combinations is better and which are the same. A law, with no
+    /// effect.
+    #[tactic(auto, using(crate::proofs::BetterLaws::term_decided))]
+    pub fn is_decided(&self)
+        ensures { IsDecidedBy (relation_of self.now) (order_of self.now) }
+    {
+        self.keeps_limits()
+    }
+
     /// An equal term, or want of memory.
     pub fn copy(&self, alloc: Global) -> Result<Term, Memory>
         ensures { IfOk result (λ term. term ≡ self.now) }
