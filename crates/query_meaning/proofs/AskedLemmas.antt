@@ -6,6 +6,7 @@ use Rattle.std.specs.Ordering.{on}
 use Rattle.std.proofs.lemmas.List.Elements.{All-nil, All-cons, All-weaker, All-append, All-map, All-filter}
 use Rattle.prefsql_tables.specs.Combos.{combos_of}
 use Rattle.prefsql_tables.specs.Sight.{Sight}
+use Rattle.prefsql_tables.specs.Table.{Tables}
 use Rattle.prefsql_tables.specs.declared.place.ColumnPlace.{ColumnPlace}
 use Rattle.prefsql_tables.specs.declared.place.Combo.{Combo}
 use Rattle.order_laws.specs.Best.{best}
@@ -17,8 +18,9 @@ use Rattle.conditions.specs.declared.condition.Scalar.{Scalar}
 use Rattle.conditions.specs.Fits.{CondFits, ScalarFits}
 use Rattle.conditions.specs.Meaning.{scalars_of}
 use Rattle.query_meaning.specs.declared.asking.Asked.{Asked}
-use Rattle.query_meaning.specs.Answers.{best_by, best_rows, candidates, row_counts, combinations}
-use Rattle.query_meaning.specs.Asking.{IsAsked, IsRowChoice, is_candidate, shows}
+use Rattle.query_meaning.specs.declared.block.Block.{Block}
+use Rattle.query_meaning.specs.Answers.{best_by, best_rows, candidates, combinations, kept_rows, passes, row_counts, seen}
+use Rattle.query_meaning.specs.Asking.{IsAsked, IsRowChoice, shows}
 use Rattle.query_meaning.specs.BlockFits.{IsLeaf, IsScalar}
 use Rattle.query_meaning.specs.Choices.{IsChoice}
 use Rattle.query_meaning.proofs.ChoiceLemmas.{scalar_fits, conds_fit, term_fits}
@@ -37,22 +39,32 @@ chosen_ranged limit limits all a (suc n) within =
     (All-weaker (IsChoice limits) (λ rest. IsChoice (limit ∷ limits) (a ∷ rest)) (λ rest chosen. (omega arith, chosen)) (combos_of limits) all))
     (chosen_ranged limit limits all (a + 1) n (omega arith))
 
-combos_chosen : (limits : List ℕ) → All (IsChoice limits) (combos_of limits)
+pub combos_chosen : (limits : List ℕ) → All (IsChoice limits) (combos_of limits)
 combos_chosen [] = All-cons (IsChoice []) [] [] tt (All-nil _)
 combos_chosen (limit ∷ limits) = chosen_ranged limit limits (combos_chosen limits) 0 limit (omega arith)
-
-pub candidates_chosen : (asked : Asked) → All (IsRowChoice asked) (candidates asked.tables.now asked.block.now)
-candidates_chosen asked =
-    let counts = row_counts asked.tables.now asked.block.now.from in
-    All-filter (is_candidate asked) (IsRowChoice asked) (combinations asked.tables.now asked.block.now.from)
-    (All-map (IsRowChoice asked) (λ rows. record { rows = rows }) (combos_of counts) (combos_chosen counts))
 
 best_among : (P : Combo → Type 0) (term : Option Term) (groups : List ColumnPlace) (see : Combo → Sight) (combos : List Combo) → All P combos → All P (best_by term groups see combos)
 best_among P None groups see combos all = all
 best_among P (Some term) groups see combos all = All-filter _ P combos all
 
-pub best_rows_chosen : (asked : Asked) → All (IsRowChoice asked) (best_rows asked.tables.now asked.block.now)
-best_rows_chosen asked = best_among (IsRowChoice asked) asked.block.now.term asked.block.now.groups _ (candidates asked.tables.now asked.block.now) (candidates_chosen asked)
+-- what a block speaks of has a row of each of its tables
+module _ (tables : Tables) (block : Block) where
+  abbrev pub IsChosen : Combo → Type 0
+  IsChosen combo = IsChoice (row_counts tables block.from) combo.rows
+
+  pub combinations_chosen : All (λ combo. IsChoice (row_counts tables block.from) combo.rows) (combinations tables block.from)
+  combinations_chosen =
+      let counts = row_counts tables block.from in
+      All-map IsChosen (λ rows. record { rows = rows }) (combos_of counts) (combos_chosen counts)
+
+  pub candidates_chosen : All (λ combo. IsChoice (row_counts tables block.from) combo.rows) (candidates tables block)
+  candidates_chosen = All-filter (λ combo. passes block.filter (seen tables block combo)) IsChosen (combinations tables block.from) combinations_chosen
+
+  pub best_rows_chosen : All (λ combo. IsChoice (row_counts tables block.from) combo.rows) (best_rows tables block)
+  best_rows_chosen = best_among IsChosen block.term block.groups (seen tables block) (candidates tables block) candidates_chosen
+
+  pub kept_rows_chosen : All (λ combo. IsChoice (row_counts tables block.from) combo.rows) (kept_rows tables block)
+  kept_rows_chosen = All-filter (λ combo. passes block.only (seen tables block combo)) IsChosen (best_rows tables block) best_rows_chosen
 
 module _ (asked : Asked) (is : IsAsked asked) (combo : Combo) (chosen : IsRowChoice asked combo) where
   pub conds_asked : (conds : List Cond) → All (IsScalar asked.block.now.from) (flat_map scalars_of conds) → All (CondFits asked.tables.now asked.from.now 0 combo.rows) conds
@@ -77,7 +89,7 @@ module _ (asked : Asked) (is : IsAsked asked) (term : Term) (term_is : asked.blo
       let leaves : All (IsLeaf asked.block.now.from) (leaves_of term) = subst (λ t. IfSome t (λ u. All (IsLeaf asked.block.now.from) (leaves_of u))) term_is is.places.leaves in
       subst (λ places. All (λ combo. TermFits asked.tables.now asked.from.now 0 combo.rows term places) combos) (sym groups_are)
       (subst (All (λ (combo : Combo). TermFits asked.tables.now asked.from.now 0 combo.rows term asked.block.now.groups)) (sym given)
-      (All-weaker (IsRowChoice asked) (λ combo. TermFits asked.tables.now asked.from.now 0 combo.rows term asked.block.now.groups) (λ combo chosen. term_asked asked is combo chosen term leaves) (candidates asked.tables.now asked.block.now) (candidates_chosen asked)))
+      (All-weaker (IsRowChoice asked) (λ combo. TermFits asked.tables.now asked.from.now 0 combo.rows term asked.block.now.groups) (λ combo chosen. term_asked asked is combo chosen term leaves) (candidates asked.tables.now asked.block.now) (candidates_chosen asked.tables.now asked.block.now)))
 
   -- the best of them by the term are the best rows
   pub best_are_rows : best (on (shown asked.tables.now asked.from.now 0) ((grouped_order groups term).better)) combos ≡ best_rows asked.tables.now asked.block.now

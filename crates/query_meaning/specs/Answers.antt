@@ -61,9 +61,13 @@ kept_rows tables block = filter (λ combo. passes block.only (seen tables block 
 abbrev pub output_row : Block → Sight → AnswerRow
 output_row block sight = record { cells = map (λ (output : Output). scalar_value sight output.scalar) block.output }
 
--- the output names, and the output values of the kept rows, arranged
-unfoldable pub answer_of : Tables → Block → Answer
-answer_of tables block = record {
+-- the answer that shows these combinations: the output names, and their output values, arranged
+abbrev pub answer_of_rows : Tables → Block → List Combo → Answer
+answer_of_rows tables block combos = record {
   names = map (λ (output : Output). output.name) block.output;
-  rows = arranged block.distinct block.order (map (λ combo. output_row block (seen tables block combo)) (kept_rows tables block));
+  rows = arranged block.distinct block.order (map (λ combo. output_row block (seen tables block combo)) combos);
 }
+
+-- the answer of a block shows its kept rows
+unfoldable pub answer_of : Tables → Block → Answer
+answer_of tables block = answer_of_rows tables block (kept_rows tables block)

@@ -24,3 +24,7 @@ shows asked = seen asked.tables.now asked.block.now
 -- whether WHERE is True
 abbrev pub is_candidate : Asked → Combo → Bool
 is_candidate asked combo = passes asked.block.now.filter (shows asked combo)
+
+-- whether BUT ONLY is True
+abbrev pub is_kept : Asked → Combo → Bool
+is_kept asked combo = passes asked.block.now.only (shows asked combo)

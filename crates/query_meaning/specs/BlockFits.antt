@@ -1,9 +1,9 @@
 -- Which blocks have an answer over which tables: a matter of columns and places, and not of what cells hold.
-use Rattle.std.specs.Prelude.{ℕ, ◌≡◌, ◌<◌, ◌||◌, IsTrue, List, [], length, map, All, IfSome, ⊤, slice_index_or}
+use Rattle.std.specs.Prelude.{ℕ, ◌<◌, ◌||◌, IsTrue, List, [], length, map, All, IfSome, ⊤, slice_index_or}
 use Rattle.std.specs.List.{HoldsAt, flat_map}
 use Rattle.prefsql_tables.specs.declared.place.ColumnPlace.{ColumnPlace}
 use Rattle.prefsql_tables.specs.declared.schema.Column.{Column}
-use Rattle.prefsql_tables.specs.Table.{Tables, columns_of, table_at}
+use Rattle.prefsql_tables.specs.Table.{Tables, IsTableAt}
 use Rattle.base_prefs.specs.declared.kind.Kind.{Kind}
 use Rattle.base_prefs.specs.Kind.{has_level, has_distance}
 use Rattle.base_prefs.specs.Rankable.{IsRankable}
@@ -18,11 +18,9 @@ use Rattle.query_meaning.specs.declared.block.Block.{Block}
 use Rattle.query_meaning.specs.declared.block.FromTable.{FromTable}
 use Rattle.query_meaning.specs.declared.block.Output.{Output}
 
--- the FROM table has, at its position in the set, this name and these columns
-pub record IsTableOf (tables : Tables) (table : FromTable) : Type 0 where
-  pub there : table.index < length tables
-  pub name : (table_at tables table.index).name ≡ table.name
-  pub columns : columns_of tables table.index ≡ table.schema.columns
+-- the table at its position in the set has its name and its columns
+abbrev pub IsTableOf : Tables → FromTable → Type 0
+IsTableOf tables table = IsTableAt tables table.index table.name table.schema.columns
 
 -- each FROM table is one of the set
 abbrev pub FitsTables : Tables → Block → Type 0

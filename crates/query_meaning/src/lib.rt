@@ -8,8 +8,9 @@ mod plain;
 mod rows;
 mod valid;
 
+pub use asking::Asked;
 pub use block::{Block, FromTable, Output};
-pub use plain::{has_best_rows, plain_answer};
+pub use plain::{has_best_rows, indexes_of, plain_answer};
 pub use rows::{PlainRow, lowest_rows};
 pub use valid::numbers_tell_leaves;
 

@@ -1,13 +1,27 @@
-use Rattle.std.proofs.Common.{◌∙◌, ap, map}
-use Rattle.query_meaning.specs.declared.block.Output.{Output}
-use Rattle.query_meaning.proofs.AnswerLemmas.{arranged_is_answer}
+use Rattle.std.proofs.Common.{◌≡◌, ◌∙◌, ap, All, sym, subst, filter}
+use Rattle.prefsql_tables.specs.declared.place.Combo.{Combo}
+use Rattle.query_meaning.specs.Answers.{kept_rows, passes, row_counts, seen}
+use Rattle.query_meaning.specs.Choices.{IsChoice}
+use Rattle.query_meaning.proofs.AnswerLemmas.{answer_of_kept}
+use Rattle.query_meaning.proofs.AskedLemmas.{best_rows_chosen, kept_rows_chosen}
 use Rattle.query_meaning.proofs.plain.counted_answer.Goals as goal
+
+pub kept_rows-requires-clause-chosen : goal.kept_rows-requires-clause-chosen
+kept_rows-requires-clause-chosen g c =
+    let tables = c.args.tables.now in
+    let block = c.args.block.now in
+    subst (All (λ (combo : Combo). IsChoice (row_counts tables block.from) combo.rows)) (sym c.in_ok-best.ensures) (best_rows_chosen tables block)
+
+pub answer-requires-clause-chosen : goal.answer-requires-clause-chosen
+answer-requires-clause-chosen g c =
+    let tables = c.args.tables.now in
+    let block = c.args.block.now in
+    let kept_is : c.as_slice-3.result.now ≡ kept_rows tables block = c.as_slice-3.ensures ∙ c.in_ok-kept.ensures ∙ ap (filter (λ combo. passes block.only (seen tables block combo))) c.in_ok-best.ensures in
+    subst (All (λ (combo : Combo). IsChoice (row_counts tables block.from) combo.rows)) (sym kept_is) (kept_rows_chosen tables block)
 
 pub returns : goal.returns
 returns g c =
-    arranged_is_answer c.args.tables.now c.args.block.now c.has_one_arrangement.ensures
-    c.arrange.result c.as_slice-5.result.now c.in_ok-names.names c.in_ok-rows.rows
-    c.as_slice-5.ensures
-    (c.in_ok-names.ensures ∙ ap (map (λ (output : Output). output.name)) c.as_slice-4.ensures)
-    c.in_ok-rows.ensures
-    c.arrange.ensures.names c.arrange.ensures.rows
+    let tables = c.args.tables.now in
+    let block = c.args.block.now in
+    let kept_is : c.as_slice-3.result.now ≡ kept_rows tables block = c.as_slice-3.ensures ∙ c.in_ok-kept.ensures ∙ ap (filter (λ combo. passes block.only (seen tables block combo))) c.in_ok-best.ensures in
+    answer_of_kept tables block c.as_slice-3.result.now kept_is c.answer.result c.answer.ensures

@@ -8,8 +8,7 @@ use Rattle.query_meaning.proofs.asking.Asked.+gather.Goals as goal
 
 pub add_candidate-requires-clause-chosen : goal.add_candidate-requires-clause-chosen
 add_candidate-requires-clause-chosen t c =
-    let all = row_counts c.args.self.now.tables.now c.args.self.now.block.now.from in
-    subst (IsChoice all) (sym c.as_slice.ensures.value) (completed_whole all c.args.rows.now.items c.args.limits.now c.in-None.ensures.cases c.requires.completed)
+    completed_whole (row_counts c.args.self.now.tables.now c.args.self.now.block.now.from) c.args.rows.now.items c.args.limits.now c.in-None.ensures.cases c.requires.completed
 
 pub loop-row-preserved : goal.loop-row-preserved
 loop-row-preserved t c =
