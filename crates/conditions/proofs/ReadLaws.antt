@@ -1,12 +1,12 @@
 -- A condition reads the columns of its scalars alone.
-use Rattle.std.proofs.Common.{◌≡◌, ◌⊎◌, Bool, List, [], ◌∷◌, ◌++◌, map, refl, sym, ap, ◌∙◌, inl, inr, ⊎_elim, subst}
+use Rattle.std.proofs.Common.{◌≡◌, Bool, List, map, refl, sym, ap, ◌∙◌, inl, inr, subst}
 use Rattle.std.specs.List.{flat_map}
 use Rattle.prefsql_values.specs.declared.value.CompareOp.{CompareOp}
 use Rattle.prefsql_values.specs.Truth.{all_true, any_true, negated, negated_if}
 use Rattle.prefsql_values.specs.Value.{between, comparison, is_null, one_of, truth_of}
 use Rattle.prefsql_tables.specs.Sight.{Sight}
 use Rattle.prefsql_tables.specs.declared.place.ColumnPlace.{ColumnPlace}
-use Rattle.order_laws.proofs.Members.{Among}
+use Rattle.order_laws.proofs.Members.{Among, among_flat_map, among_flat_mapped, among_mapped, map_same}
 use Rattle.base_prefs.specs.Kind.{distance_of, level_of}
 use Rattle.conditions.specs.declared.condition.Quality.{Quality}
 use Rattle.conditions.specs.declared.condition.Scalar.{Scalar}
@@ -17,42 +17,6 @@ use Rattle.conditions.specs.Meaning.{is_best, quality_of, scalar_value, scalars_
 use Rattle.conditions.proofs.CondReads.{scalars_of-And, scalars_of-Or, scalars_of-Not, scalars_of-Compare, scalars_of-Between, scalars_of-OneOf, scalars_of-IsNull, scalars_of-Top, truth-And, truth-Or, truth-Not, truth-Compare, truth-Between, truth-OneOf, truth-IsNull, truth-Top}
 use Rattle.conditions.specs.Places.{read_by, scalar_places}
 use Rattle.conditions.proofs.CondInduction.{cond_induction_among}
-
-module _ {X : Type 0} where
-  among_front : (xs ys : List X) (x : X) → Among xs x → Among (xs ++ ys) x
-  among_front [] ys x a = absurd a
-  among_front (y ∷ xs) ys x (inl e) = inl e
-  among_front (y ∷ xs) ys x (inr a) = inr (among_front xs ys x a)
-
-  among_back : (xs ys : List X) (x : X) → Among ys x → Among (xs ++ ys) x
-  among_back [] ys x a = a
-  among_back (y ∷ xs) ys x a = inr (among_back xs ys x a)
-
-  among_either : (xs ys : List X) (x : X) → Among (xs ++ ys) x → Among xs x ⊎ Among ys x
-  among_either [] ys x a = inr a
-  among_either (y ∷ xs) ys x (inl e) = inl (inl e)
-  among_either (y ∷ xs) ys x (inr a) = ⊎_elim (λ b. inl (inr b)) (λ b. inr b) (among_either xs ys x a)
-
-module _ {X Y : Type 0} (f : X → Y) where
-  among_mapped : (xs : List X) (x : X) → Among xs x → Among (map f xs) (f x)
-  among_mapped [] x a = absurd a
-  among_mapped (y ∷ ys) x (inl e) = inl (ap f e)
-  among_mapped (y ∷ ys) x (inr a) = inr (among_mapped ys x a)
-
-module _ {X Y : Type 0} (f : X → List Y) where
-  among_flat_mapped : (xs : List X) (x : X) (y : Y) → Among xs x → Among (f x) y → Among (flat_map f xs) y
-  among_flat_mapped [] x y a b = absurd a
-  among_flat_mapped (z ∷ zs) x y (inl e) b = among_front (f z) (flat_map f zs) y (subst (λ w. Among (f w) y) (sym e) b)
-  among_flat_mapped (z ∷ zs) x y (inr a) b = among_back (f z) (flat_map f zs) y (among_flat_mapped zs x y a b)
-
-  among_flat_map : (xs : List X) (y : Y) → Among (flat_map f xs) y → (x : X) × Among xs x × Among (f x) y
-  among_flat_map [] y a = absurd a
-  among_flat_map (x ∷ xs) y a =
-      ⊎_elim (λ b. (x, inl refl, b)) (λ b. let found = among_flat_map xs y b in (found.0, inr found.1, found.2)) (among_either (f x) (flat_map f xs) y a)
-
-map_same : {X Y : Type 0} (f g : X → Y) (xs : List X) → ((x : X) → Among xs x → f x ≡ g x) → map f xs ≡ map g xs
-map_same f g [] h = refl
-map_same f g (x ∷ xs) h = ap (λ y. y ∷ map f xs) (h x (inl refl)) ∙ ap (λ ys. g x ∷ ys) (map_same f g xs (λ y a. h y (inr a)))
 
 -- both show the same in these columns
 pub record Agree (a b : Sight) (places : List ColumnPlace) : Type 0 where
