@@ -1,19 +1,39 @@
 //! The program `prefsql`: its words, its standard streams and the files.
 #![tactic(auto)]
 
-ghost use Rattle.std.specs.Prelude.{◌≡◌};
-ghost use Rattle.prefsql_cli.specs.Exit.{exit_number};
+mod words;
 
+ghost use Rattle.std.specs.Prelude.{◌≡◌, true, false, None};
+ghost use Rattle.std.specs.Process.{exit_status};
+ghost use Rattle.prefsql_cli.specs.Exit.{exit_number};
+ghost use Rattle.prefsql_cli.specs.Words.{are_texts, words_in};
+ghost use Rattle.prefsql_session.specs.Course.{course};
+ghost use Rattle.prefsql_session.specs.Run.{EndsAt};
+ghost use Rattle.prefsql_session.specs.Stage.{unaccepted};
+
+use crate::words::{NoWords, arguments, words_of};
 use prefsql_io::{FileShelf, StdSink, StdSource};
 use prefsql_session::{Status, run};
-use prefsql_values::{Memory, Steps, Text};
-use std::alloc::Global;
-use std::env;
-use std::io::ErrorKind;
+use prefsql_values::{List, Memory, Steps, Text};
 use std::marker::Brand;
 use std::process::ExitCode;
 use std::rt::Runtime;
 use std::sync::ledger::{Blank, Ledger};
+
+fn main(rt: HostRuntime) -> ExitCode {
+    let status = match arguments(&rt, rt.alloc()) {
+        Ok(arguments) => run_over::<Brand>(rt, arguments.as_slice(), Blank::new(1)),
+        Err(Memory) => Status::Memory,
+    };
+    ending(status)
+}
+
+/// What the process ends with.
+fn ending(status: Status) -> ExitCode
+    ensures { exit_status result ≡ exit_number status }
+{
+    ExitCode::from(exit_number(status))
+}
 
 fn exit_number(status: Status) -> u8
     ensures { result ≡ exit_number status }
@@ -29,20 +49,30 @@ fn exit_number(status: Status) -> u8
     }
 }
 
-// The words after the program's name.
-fn texts(alloc: Global, words: Vec<String>) -> Result<Vec<Text>, Memory> {
-    let mut texts = Vec::new(alloc);
-    for word in words.iter().skip(1) {
-        texts.push(Text::of(alloc, word.as_str())?)?;
-    }
-    Ok(texts)
+/// Runs over the words of these arguments. Where one is no text, the words are not accepted.
+fn run_over<L: Ledger>(rt: HostRuntime, arguments: &[List<u8>], blank: Blank) -> Status
+    requires name { blank.name ≡ L.name }
+    requires parts { blank.parts ≡ L.parts }
+    requires one { blank.parts ≡ 1 }
+    ensures texts { are_texts (words_in arguments.now) ≡ true → EndsAt (course (words_in arguments.now) None None) result }
+    ensures no_text { are_texts (words_in arguments.now) ≡ false → EndsAt unaccepted result }
+{
+    let alloc = rt.alloc();
+    let words = match words_of(alloc, arguments) {
+        Ok(words) => words,
+        // No words are not accepted either.
+        Err(NoWords::NotText) => List::new(alloc),
+        Err(NoWords::Memory) => return Status::Memory,
+    };
+    run_real::<L>(rt, words.as_slice(), blank)
 }
 
-// Runs over the standard streams and the files.
+/// Runs over the standard streams and the files, which tell nothing of what they hold.
 fn run_real<L: Ledger>(rt: HostRuntime, words: &[Text], blank: Blank) -> Status
     requires name { blank.name ≡ L.name }
     requires parts { blank.parts ≡ L.parts }
     requires one { blank.parts ≡ 1 }
+    ensures { EndsAt (course words.now None None) result }
 {
     let alloc = rt.alloc();
     let mut script = StdSource::new(rt.stdin());
@@ -59,22 +89,4 @@ fn run_real<L: Ledger>(rt: HostRuntime, words: &[Text], blank: Blank) -> Status
         &mut shelf,
         &mut steps,
     )
-}
-
-fn main(rt: HostRuntime) -> ExitCode {
-    let alloc = rt.alloc();
-    let words = match env::args(&rt) {
-        Ok(args) => match args.collect(alloc) {
-            Ok(words) => texts(alloc, words),
-            Err(_) => Err(Memory),
-        },
-        Err(error) if error.kind() == ErrorKind::OutOfMemory => Err(Memory),
-        // A word is no text, so the words are not accepted: neither are no words.
-        Err(_) => Ok(Vec::new(alloc)),
-    };
-    let status = match words {
-        Ok(words) => run_real::<Brand>(rt, &words, Blank::new(1)),
-        Err(Memory) => Status::Memory,
-    };
-    ExitCode::from(exit_number(status))
 }
