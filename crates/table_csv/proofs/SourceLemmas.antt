@@ -2,7 +2,7 @@
 use Rattle.std.proofs.Common.{◌≡◌, ℕ, ◌+◌, subst, List, [], ◌∷◌, length, Bool, true, false, Some, None, refl, sym, ◌∙◌, ap, arith, add-one, inl, inr, Bor}
 use Rattle.csv.proofs.ReadFacts.{rows-end, rows-more}
 use Rattle.csv.specs.Machine.{Read, next_record, ends_at_end}
-use Rattle.csv.specs.Reading.{Reached, ReadRecord, default_config, reader_config, reader_headers, reader_state, reader_trim, names_headers, records_from, strip_bom, took_first}
+use Rattle.csv.specs.Reading.{Reached, ReadRecord, default_config, is_flexible, reader_config, reader_headers, reader_state, reader_trim, names_headers, records_from, strip_bom, took_first}
 use Rattle.csv.specs.declared.parser.State.{State}
 use Rattle.csv.specs.declared.parser.State.TheVariants as st
 use Rattle.csv.specs.declared.reader.Reader.{Reader}
@@ -27,9 +27,9 @@ left_is reader s xs state source = rw (state, source) refl
 
 -- what one read of csv does, in the words of the records that are left
 pub read_next : (old new : Reader (Bor (List ℕ))) (found : Bool) (fields : List (List ℕ)) → IsBetween old → took_first new ≡ true
-    → ReadRecord (λ (bytes : Bor (List ℕ)). Some bytes.now) old new found fields → ReadsNext old new found fields
+    → is_flexible new ≡ is_flexible old → ReadRecord (λ (bytes : Bor (List ℕ)). Some bytes.now) old new found fields → ReadsNext old new found fields
 unfolding Reached
-read_next old new true fields at first read =
+read_next old new true fields at first flexible read =
     let more = rows-more (λ (bytes : Bor (List ℕ)). Some bytes.now) old new fields default_config (reader_state old) at.bytes at.bytes [] at.config at.source (refl, refl) read in
     let p = more.2.0 in
     let less = takes_byte (reader_state old) at.bytes p at.state more.2.1 in
@@ -41,6 +41,7 @@ read_next old new true fields at first read =
       record {
         trim = read.3 ∙ at.trim;
         ready = inl first;
+        flexible = flexible ∙ at.flexible;
         config = read.2 ∙ at.config;
         state = subst P state less.between;
         bytes = more.0;
@@ -50,17 +51,18 @@ read_next old new true fields at first read =
           ∙ ap (λ f. f ∷ records_after p.1 p.2) (sym same) ∙ ap (λ rows. fields ∷ rows) (sym after),
       omega (arith, ap length same, less.some),
     )
-read_next old new false fields at first read =
+read_next old new false fields at first flexible read =
     let end = rows-end (λ (bytes : Bor (List ℕ)). Some bytes.now) old new fields default_config at.bytes at.config at.source read in
     rw at.source (records_after-none (reader_state old) at.bytes end)
 
 -- a reader over a whole file
-pub started : (reader : Reader (Bor (List ℕ))) (bytes : List ℕ) → reader_config reader ≡ default_config → names_headers reader ≡ false → reader_trim reader ≡ trim.None → reader_headers reader ≡ None
+pub started : (reader : Reader (Bor (List ℕ))) (bytes : List ℕ) → reader_config reader ≡ default_config → names_headers reader ≡ false → reader_trim reader ≡ trim.None → reader_headers reader ≡ None → is_flexible reader ≡ true
     → reader_state reader ≡ st.StartRecord → bytes_left reader ≡ Some (strip_bom bytes) → IsBetween reader × (records_left reader ≡ file_records bytes)
-started reader bytes config names trimmed headers state source = (
+started reader bytes config names trimmed headers flexible state source = (
   record {
     trim = trimmed;
     ready = inr (inr (names, headers));
+    flexible = flexible;
     config = config;
     state = rw state refl;
     bytes = strip_bom bytes;

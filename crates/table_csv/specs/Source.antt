@@ -2,7 +2,7 @@
 use Rattle.std.specs.Prelude.{◌≡◌, ◌+◌, ◌≤◌, ℕ, Bool, true, false, List, [], ◌∷◌, length, Option, Some, unwrap_or}
 use Rattle.std.specs.Borrow.{Bor}
 use Rattle.csv.specs.Machine.{ends_at_end}
-use Rattle.csv.specs.Reading.{Ready, default_config, reader_config, reader_state, reader_trim, records_from, source_of}
+use Rattle.csv.specs.Reading.{Ready, default_config, is_flexible, reader_config, reader_state, reader_trim, records_from, source_of}
 use Rattle.csv.specs.declared.parser.State.{State}
 use Rattle.csv.specs.declared.reader.Reader.{Reader}
 use Rattle.csv.specs.declared.reader.Trim.TheVariants as trim
@@ -18,10 +18,12 @@ records_after state bytes = records_from default_config (length bytes + 1) state
 abbrev pub records_left : Reader (Bor (List ℕ)) → List (List (List ℕ))
 records_left reader = records_after (reader_state reader) (unwrap_or (bytes_left reader) [])
 
--- the reader reads by the defaults of csv, and stands between two records of known bytes
+-- the reader takes records of any number of fields, else reads by the defaults of csv, and stands between two records of
+-- known bytes
 pub record IsBetween (reader : Reader (Bor (List ℕ))) : Type 0 where
   pub trim : reader_trim reader ≡ trim.None
   pub ready : Ready reader
+  pub flexible : is_flexible reader ≡ true
   pub config : reader_config reader ≡ default_config
   pub state : ends_at_end (reader_state reader) ≡ false
   pub bytes : List ℕ

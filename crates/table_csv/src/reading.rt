@@ -10,7 +10,7 @@ use crate::codes::NO_RECORD;
 use crate::fault::{TableFault, bad};
 use crate::header::read_header;
 use crate::row::read_row;
-use csv::{ByteRecord, Reader, ReaderBuilder};
+use csv::{ByteRecord, ErrorKind, Reader, ReaderBuilder};
 use prefsql_tables::Table;
 use prefsql_values::Memory;
 use std::alloc::Global;
@@ -47,14 +47,17 @@ fn records_of(alloc: Global, bytes: &[u8]) -> Reader<&[u8]>
         .from_reader(alloc, bytes)
 }
 
-/// The next record, and whether there was one.
+/// The next record, and whether there was one. A record may have any number of fields and holds any bytes, so that the
+/// reader refuses none. No read of bytes in memory fails, and one that did would be answered as want of memory.
 fn read_record(reader: &mut Reader<&[u8]>, fields: &mut ByteRecord) -> Result<bool, Memory>
     requires { IsBetween reader.old }
     ensures { IfOk result (λ found. ReadsNext reader.old reader.new found (fields_of fields.new)) }
 {
-    let Ok(found) = reader.read_byte_record(fields) else {
-        // Bytes in memory are read without any other fault.
-        return Err(Memory);
-    };
-    Ok(found)
+    match reader.read_byte_record(fields) {
+        Ok(found) => Ok(found),
+        Err(error) => match error.kind() {
+            ErrorKind::OutOfMemory | ErrorKind::Io(_) => Err(Memory),
+            _ => unreachable!(),
+        },
+    }
 }

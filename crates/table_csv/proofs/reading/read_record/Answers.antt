@@ -2,6 +2,6 @@ use Rattle.csv.specs.Records.{fields_of}
 use Rattle.table_csv.proofs.SourceLemmas.{read_next}
 use Rattle.table_csv.proofs.reading.read_record.Goals as goal
 
-pub returns : goal.returns
-returns c =
-    read_next c.args.reader.now c.read_byte_record.new.self c.in-Ok.found (fields_of c.read_byte_record.new.row) c.requires (c.in-Ok.ensures.ready c.requires.trim) (c.in-Ok.ensures.reads c.requires.trim c.requires.ready)
+pub returns-in-Ok : goal.returns-in-Ok
+returns-in-Ok c =
+    read_next c.args.reader.now c.read_byte_record.new.self c.in-Ok.found (fields_of c.read_byte_record.new.row) c.requires (c.in-Ok.ensures.ready c.requires.trim) c.in-Ok.ensures.flexible (c.in-Ok.ensures.reads c.requires.trim c.requires.ready)
