@@ -1,7 +1,7 @@
 -- Whole ones of a form by the spans of their tokens: from which place up to which place each part stands, and in how many
 -- open parentheses.
-use Rattle.std.proofs.Common.{◌≡◌, ℕ, suc, ◌+◌, ◌<◌, ◌≤◌, ◌⊎◌, inl, inr, Bool, true, List, [], ◌∷◌, ◌++◌, eqb, ap, subst, ◌∙◌, arith, Option, Some, None}
-use Rattle.std.proofs.lemmas.Bool.{eqb-true, and_parts}
+use Rattle.std.proofs.Common.{◌≡◌, ℕ, ◌+◌, ◌<◌, ◌≤◌, ◌⊎◌, inl, inr, Bool, true, List, [], ◌∷◌, ◌++◌, eqb, subst, arith, Option, Some, None}
+use Rattle.std.proofs.lemmas.Bool.{and_parts}
 use Rattle.grammar_forms.specs.Form.{Form, nothing, token, both, either, option, many, rows, map, rule, Wholes, Several, Possibly, WholeBy}
 use Rattle.grammar_forms.proofs.Nesting.{turn, level, after, is_nested, level_is, level_same, flat_rows}
 

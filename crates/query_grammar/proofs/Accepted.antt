@@ -2,7 +2,7 @@
 use Rattle.std.proofs.Common.{◌≡◌, ◌≤◌, ◌<◌, ◌+◌, ℕ, ◌⊎◌, inl, inr, Bool, List, [], ◌++◌, length, sym, ap, subst, ◌∙◌, arith, Ok, Err}
 use Rattle.std.proofs.lemmas.List.{append-nil}
 use Rattle.std.proofs.lemmas.Bool.{false≢true}
-use Rattle.grammar_forms.specs.Form.{Several, Wholes, Fronts, WholeRule, FrontRule, option, many, both}
+use Rattle.grammar_forms.specs.Form.{Several, Wholes, Fronts, WholeRule, FrontRule, option, many}
 use Rattle.grammar_forms.specs.Form as form
 use Rattle.grammar_forms.specs.Reading.{Outcome}
 use Rattle.grammar_forms.proofs.Exact.{Exact, IsFound}

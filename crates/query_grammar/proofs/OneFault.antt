@@ -12,7 +12,7 @@ use Rattle.query_grammar.specs.Classes.{class, word_class}
 use Rattle.query_grammar.specs.ReadStatements.{Counted, counted}
 use Rattle.query_grammar.specs.Outcome.{outcome}
 use Rattle.query_grammar.specs.Place.{SaysCode, place_of}
-use Rattle.query_grammar.specs.Scripts.{IsScript, IsScriptFront, IsFull, IsFault, IsCode}
+use Rattle.query_grammar.specs.Scripts.{IsScript, IsScriptFront, IsFault, IsCode}
 use Rattle.query_grammar.proofs.Faults.{script_found, fault_inside, fault_behind}
 
 pub script_or_fault : (ts : List Token) (end : ℕ) (trees : List QueryTree) (spot : Spot) → IsScript ts trees → IsFault ts end spot → ⊥

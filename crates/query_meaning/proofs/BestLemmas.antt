@@ -1,8 +1,7 @@
 -- The best rows of a block are the candidates that no candidate of their group is better than.
-use Rattle.std.proofs.Common.{◌≡◌, ◌↔◌, Bool, true, false, not, Option, Some, None, List, Contains, Decides, refl, ap, sym}
-use Rattle.std.specs.List.{list_any}
+use Rattle.std.proofs.Common.{◌↔◌, Bool, Option, Some, None, List, Contains, Decides}
 use Rattle.std.specs.Ordering.{on}
-use Rattle.std.proofs.lemmas.Bool.{and_parts, and_from, both_ways}
+use Rattle.std.proofs.lemmas.Bool.{and_parts, and_from}
 use Rattle.std.proofs.lemmas.List.Sums.{AllPass-from_list_all, list_all-from_AllPass}
 use Rattle.prefsql_values.specs.Value.{value_eq}
 use Rattle.prefsql_values.proofs.ValueEq.{value_eq-Decides}

@@ -4,7 +4,7 @@ use Rattle.std.specs.List.{HoldsAt, flat_map, range_with_len}
 use Rattle.std.proofs.lemmas.List.{get_or-map, length-map}
 use Rattle.std.proofs.lemmas.List.Elements.{All-nil, All-cons, All-head, All-weaker}
 use Rattle.prefsql_tables.specs.Sight.{IsInSight}
-use Rattle.prefsql_tables.specs.Table.{Tables, rows_of, columns_of, HasCell}
+use Rattle.prefsql_tables.specs.Table.{Tables, rows_of, columns_of}
 use Rattle.prefsql_tables.specs.declared.place.ColumnPlace.{ColumnPlace}
 use Rattle.prefsql_tables.specs.declared.schema.Column.{Column}
 use Rattle.base_prefs.specs.Rankable.{IsRankable}

@@ -1,8 +1,8 @@
 -- What was read after a value that is kept.
-use Rattle.std.proofs.Common.{◌≡◌, List, [], ◌∷◌, ◌++◌, subst, refl, sym, ap, ◌∙◌, Result, Ok, Err}
+use Rattle.std.proofs.Common.{◌≡◌, List, [], ◌∷◌, ◌++◌, subst, Result, Ok, Err}
 use Rattle.grammar_forms.specs.Reading.{Outcome}
 use Rattle.prefsql_lexer.specs.declared.token.Token.{Token}
-use Rattle.query_reader.specs.Reads.{Reads, IsPair, IsPushed}
+use Rattle.query_reader.specs.Reads.{Reads, IsPushed}
 use Rattle.query_reader.specs.declared.cursor.Stop.{Stop}
 use Rattle.query_reader.specs.declared.cursor.Stop.TheVariants.{Fault, Memory}
 

@@ -1,5 +1,5 @@
 -- How deep parentheses nest in a condition that is written with as few of them as its text allows (ISO/IEC 9075:1992).
-use Rattle.std.specs.Prelude.{ℕ, List, map}
+use Rattle.std.specs.Prelude.{ℕ, map}
 use Rattle.prefsql_values.specs.Nesting.{Standing, alone, in_and, in_or, after_not, wraps_and, wraps_or, wraps_not, in_parentheses, deepest}
 use Rattle.query_tree.specs.declared.condition.CondTree.{CondTree, fold-CondTree}
 use Rattle.query_tree.specs.declared.condition.CondTree.TheOpen.{CondTree-F}

@@ -1,8 +1,8 @@
-use Rattle.std.proofs.Common.{◌≡◌, ◌++◌, ◌∷◌, [], ◌∙◌, ap, sym, subst, ℕ, List, filter, arith}
+use Rattle.std.proofs.Common.{◌≡◌, ◌++◌, ◌∷◌, [], ◌∙◌, ap, subst, ℕ, List, filter, arith}
 use Rattle.prefsql_tables.specs.Combos.{combos_of}
 use Rattle.query_meaning.specs.Answers.{row_counts}
 use Rattle.query_meaning.specs.Asking.{is_candidate}
-use Rattle.query_meaning.specs.Choices.{IsChoice, begun}
+use Rattle.query_meaning.specs.Choices.{begun}
 use Rattle.query_meaning.proofs.GatherLemmas.{completed_whole, gathered_more, gathered_all, popped}
 use Rattle.query_meaning.proofs.asking.Asked.+gather.Goals as goal
 
