@@ -1,5 +1,5 @@
--- The conditions that AND joins at the top of a condition, and a list of such conditions as one (ISO/IEC 9075:1992, search
--- condition).
+-- The conditions that AND joins at the top of a condition, and a list of such conditions as one
+-- (ISO/IEC 9075:1992, search condition).
 use Rattle.std.specs.Prelude.{List, [], ◌∷◌}
 use Rattle.conditions.specs.declared.condition.Cond.{Cond, And, out-Cond}
 use Rattle.conditions.specs.declared.condition.Cond.TheOpen.{Cond-F}

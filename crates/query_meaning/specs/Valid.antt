@@ -69,10 +69,14 @@ named_values (kind.Between low up) = Num low ∷ Num up ∷ []
 named_values kind.Lowest = []
 named_values kind.Highest = []
 
+-- the value is of the column's domain
+abbrev pub IsOfColumn : List FromTable → ColumnPlace → Value → Type 0
+IsOfColumn from place value = value_domain value ≡ Some (place_domain from place)
+
 -- its base preference keeps the limits of its kind, and names values of the column's domain alone
 pub record IsValidLeaf (from : List FromTable) (leaf : Leaf) : Type 0 where
   pub sound : IsSound leaf.base
-  pub values : All (λ value. value_domain value ≡ Some (place_domain from leaf.place)) (named_values leaf.base)
+  pub values : All (IsOfColumn from leaf.place) (named_values leaf.base)
 
 -- the numbers 1, 2, 3 and so on
 abbrev pub AreNumbered : List Leaf → Type 0
@@ -122,8 +126,10 @@ abbrev mutual
   AreFormed from end_of-Cond = ⊤
   AreFormed from (more_of-Cond part rest) = IsFormed from part × AreFormed from rest
 
--- the conditions that AND joins, over these leaves: they are the parts of one condition, which nests at most 64 deep
-pub record AreConjuncts (from : List FromTable) (leaves : List Leaf) (conds : List Cond) : Type 0 where
+-- conditions that AND joins, over these leaves: they are the parts of one condition, which nests at
+-- most 64 deep
+pub record AreConjuncts (from : List FromTable) (leaves : List Leaf) (conds : List Cond)
+    : Type 0 where
   pub few : length conds < 2 ^ 32
   pub formed : All (IsFormed from) conds
   pub scalars : All (IsOverLeaves leaves) (flat_map scalars_of conds)
@@ -140,9 +146,10 @@ pub record IsOutput (leaves : List Leaf) (output : Output) : Type 0 where
   pub name : IsName output.name
   pub scalar : IsOverLeaves leaves output.scalar
 
--- one to eight FROM tables, some output, places of columns and base preferences on columns that they rank, at most eight
--- leaves, numbered as they are written, WHERE over none of them and BUT ONLY over all; each group column once; neither groups
--- nor BUT ONLY without a term; and keys that speak of the output
+-- It has one to eight FROM tables and some output. Its places are of columns, and each base
+-- preference stands on a column that it ranks. It has at most eight leaves, numbered as they are
+-- written. WHERE is over none of them, the output and BUT ONLY over all. Each group column stands
+-- once. Without a term it has neither groups nor BUT ONLY. Its keys speak of the output.
 pub record IsValidBlock (block : Block) : Type 0 where
   pub some_from : 0 < length block.from
   pub few_from : length block.from ≤ 8

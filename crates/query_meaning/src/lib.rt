@@ -5,14 +5,9 @@ mod asking;
 mod block;
 mod fitting;
 mod plain;
-mod rows;
 mod valid;
 
 pub use asking::Asked;
 pub use block::{Block, FromTable, Output};
 pub use plain::{has_best_rows, indexes_of, plain_answer};
-pub use rows::{PlainRow, lowest_rows};
 pub use valid::numbers_tell_leaves;
-
-#[cfg(test)]
-mod tests;

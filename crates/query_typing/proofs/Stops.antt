@@ -15,9 +15,10 @@ use Rattle.query_tree.specs.Places.{edge_places}
 use Rattle.query_tree.specs.declared.name.LiteralTree.{LiteralTree}
 use Rattle.query_tree.specs.declared.preference.EdgeTree.{EdgeTree}
 use Rattle.query_tree.specs.declared.query.FromTree.{FromTree}
+use Rattle.query_meaning.specs.Valid.{value_domain}
 use Rattle.query_typing.specs.Columns.{correlation}
 use Rattle.query_typing.specs.InOrder.{Ascends, from_places, literal_places, stands_before}
-use Rattle.query_typing.specs.Domains.{agree, value_domain}
+use Rattle.query_typing.specs.Domains.{agree}
 use Rattle.query_typing.specs.Obligations.{Obligation, earlier, first_unmet, is_before, owes, spot_of, unmet}
 use Rattle.query_typing.specs.Preferences.{edge_obligations, edge_of, edges_obligations, has_cycle, is_seventeenth, member_obligations, members_obligations}
 use Rattle.base_prefs.specs.Graph.{ends}

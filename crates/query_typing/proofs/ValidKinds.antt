@@ -21,8 +21,7 @@ use Rattle.base_prefs.specs.declared.edge.Edge.{Edge}
 use Rattle.base_prefs.specs.declared.edge.ValueSet.{ValueSet}
 use Rattle.base_prefs.specs.declared.kind.Kind.{Kind}
 use Rattle.base_prefs.specs.declared.kind.Kind.TheVariants as kind
-use Rattle.query_meaning.specs.Valid as valid
-use Rattle.query_meaning.specs.Valid.{named_values}
+use Rattle.query_meaning.specs.Valid.{named_values, value_domain}
 use Rattle.query_tree.specs.WellMade.{IsEdge, IsForm, IsLiteral, IsSet, KeepsTrivial}
 use Rattle.query_tree.specs.declared.name.LiteralTree.{LiteralTree}
 use Rattle.query_tree.specs.declared.preference.BaseForm.{BaseForm}
@@ -32,7 +31,7 @@ use Rattle.query_tree.specs.declared.preference.SetTree.{SetTree}
 use Rattle.query_tree.specs.declared.query.FromTree.{FromTree}
 use Rattle.query_typing.specs.declared.column.Found.TheVariants.{One}
 use Rattle.query_typing.specs.declared.column.Site.{Site}
-use Rattle.query_typing.specs.Domains.{agree, is_same_domain, value_domain}
+use Rattle.query_typing.specs.Domains.{agree, is_same_domain}
 use Rattle.query_typing.specs.Leaves.{form_has_distance, form_has_level}
 use Rattle.query_typing.specs.Made.{AreFewApart, IsMakeable}
 use Rattle.query_typing.specs.Obligations.{AllMet, Obligation, owes}
@@ -164,7 +163,7 @@ same_domain Chars Chars same = refl
 module _ (d : Domain) where
   -- the value is of the domain
   abbrev pub HasDomain : Value → Type 0
-  HasDomain v = valid.value_domain v ≡ Some d
+  HasDomain v = value_domain v ≡ Some d
 
   of_domain : (v : Value) → IsLiteralValue v → agree (Some d) (value_domain v) ≡ true → HasDomain v
   of_domain (Num n) is met = ap Some (same_domain d Integer met)
@@ -213,7 +212,7 @@ module _ (tables : Tables) (from : List FromTree) (site : Site) where
   abbrev Has : Value → Type 0
   Has = HasDomain site.domain
 
-  pub kind_named : (f : BaseForm) (k : Kind) → IsForm f → (form_ranks_numbers f ≡ true → Some site.domain ≡ Some Integer) → AllMet (form_obligations tables from (One site) f) → IsKindOf f k → All (λ (v : Value). valid.value_domain v ≡ Some site.domain) (named_values k)
+  pub kind_named : (f : BaseForm) (k : Kind) → IsForm f → (form_ranks_numbers f ≡ true → Some site.domain ≡ Some Integer) → AllMet (form_obligations tables from (One site) f) → IsKindOf f k → All (λ (v : Value). value_domain v ≡ Some site.domain) (named_values k)
   kind_named (form.Pos set) k is numbers all same =
       by_kind site.domain k _ same (sets_named site.domain [] (set ∷ []) (one_set set is) all)
   kind_named (form.Neg set) k is numbers all same =

@@ -27,7 +27,7 @@ use Rattle.query_typing.specs.declared.quality.Wanted.{Wanted}
 use Rattle.query_typing.specs.declared.quality.Wanted.TheVariants.{Level, Distance}
 use Rattle.query_typing.specs.Columns.{column_of, domain_found, place_found}
 use Rattle.query_typing.specs.Conditions.{column_obligations, compared_obligations, domain_obligation, quality_obligations, scalar_domain, scalar_obligations}
-use Rattle.query_typing.specs.Domains.{agree, value_domain}
+use Rattle.query_typing.specs.Domains.{agree}
 use Rattle.query_typing.specs.Leaves.{leaf_sites}
 use Rattle.query_typing.specs.Obligations.{AllMet, Obligation}
 use Rattle.query_typing.specs.Preferences.{bases_obligations}
@@ -48,11 +48,6 @@ over true leaves = leaves
 -- the scalar has places of the FROM tables, and is over the leaves
 abbrev pub IsGood : List FromTable → List Leaf → Scalar → Type 0
 IsGood from leaves s = fits.IsScalar from s × IsOverLeaves leaves s
-
-value_domain_is : (v : Value) → valid.value_domain v ≡ value_domain v
-value_domain_is (Num n) = refl
-value_domain_is (Str text) = refl
-value_domain_is Null = refl
 
 some_value : (v : Value) → IsLiteralValue v → is_some (valid.value_domain v) ≡ true
 some_value (Num n) is = refl
@@ -105,7 +100,7 @@ module _ (tables : Tables) (from : List FromTree) (bases : List BaseTree) (leave
 
   domain_same : (s : ScalarTree) → AllMet (scalar_obligations tables from (leaf_sites tables from bases) s) → valid.scalar_domain (map (from_table tables) from) (resolved_scalar tables from leaves s) ≡ scalar_domain tables from s
   domain_same (scalar.Column name) owed = column_domain tables from name owed
-  domain_same (scalar.Literal literal) owed = value_domain_is literal.value
+  domain_same (scalar.Literal literal) owed = refl
   domain_same (scalar.Level name word) owed = refl
   domain_same (scalar.Distance name word) owed = refl
 
