@@ -3,13 +3,14 @@
 
 mod words;
 
-ghost use Rattle.std.specs.Prelude.{◌≡◌, true, false, None};
+ghost use Rattle.std.specs.Prelude.{◌≡◌, [], true, false, None};
 ghost use Rattle.std.specs.Process.{exit_status};
 ghost use Rattle.prefsql_cli.specs.Exit.{exit_number};
 ghost use Rattle.prefsql_cli.specs.Words.{are_texts, words_in};
-ghost use Rattle.prefsql_session.specs.Course.{course};
+ghost use Rattle.prefsql_session.specs.CommandLine.{accepted};
+ghost use Rattle.prefsql_session.specs.Course.{Comes};
+ghost use Rattle.prefsql_session.specs.Opening.{opening};
 ghost use Rattle.prefsql_session.specs.Run.{EndsAt};
-ghost use Rattle.prefsql_session.specs.Stage.{unaccepted};
 
 use crate::words::{NoWords, arguments, words_of};
 use prefsql_io::{FileShelf, StdSink, StdSource};
@@ -54,8 +55,9 @@ fn run_over<L: Ledger>(rt: HostRuntime, arguments: &[List<u8>], blank: Blank) ->
     requires name { blank.name ≡ L.name }
     requires parts { blank.parts ≡ L.parts }
     requires one { blank.parts ≡ 1 }
-    ensures texts { are_texts (words_in arguments.now) ≡ true → EndsAt (course (words_in arguments.now) None None) result }
-    ensures no_text { are_texts (words_in arguments.now) ≡ false → EndsAt unaccepted result }
+    ensures texts { are_texts (words_in arguments.now) ≡ true
+        → EndsAt (Comes (words_in arguments.now) None None) (opening (words_in arguments.now) None) (accepted (words_in arguments.now)) result }
+    ensures no_text { are_texts (words_in arguments.now) ≡ false → EndsAt (Comes [] None None) (opening [] None) (accepted []) result }
 {
     let alloc = rt.alloc();
     let words = match words_of(alloc, arguments) {
@@ -72,7 +74,7 @@ fn run_real<L: Ledger>(rt: HostRuntime, words: &[Text], blank: Blank) -> Status
     requires name { blank.name ≡ L.name }
     requires parts { blank.parts ≡ L.parts }
     requires one { blank.parts ≡ 1 }
-    ensures { EndsAt (course words.now None None) result }
+    ensures { EndsAt (Comes words.now None None) (opening words.now None) (accepted words.now) result }
 {
     let alloc = rt.alloc();
     let mut script = StdSource::new(rt.stdin());

@@ -4,7 +4,7 @@ use Rattle.std.specs.Option.{option_map, option_and_then}
 use Rattle.std.specs.Prelude.{All}
 use Rattle.std.proofs.lemmas.List.{take_more, take-append-drop, map-append}
 use Rattle.std.proofs.Math.Seq.{drop-cons}
-use Rattle.prefsql_session.specs.SimpleTable.{each}
+use Rattle.prefsql_session.specs.CommandLine.{each}
 
 split_first : {Y : Type 0} (first : Option Y) (rest : Option (List Y)) (ys : List Y)
     → option_and_then (λ y. option_map (λ more. y ∷ more) rest) first ≡ Some ys

@@ -1,9 +1,15 @@
-pub mod AnswerLemmas
-pub mod Ascii
-pub mod EachLemmas
-pub mod Numbers
-pub mod PositionLemmas
-pub mod RectangleLemmas
-pub mod RunLemmas
-pub mod ScriptLemmas
-pub mod StageLemmas
+mod EachLemmas
+mod Follow
+mod Meaning
+mod NameLemmas
+mod OneEnd
+mod OpeningLemmas
+mod PrepareLemmas
+mod ResultLemmas
+mod RunLemmas
+mod StateOf
+mod TakenWords
+mod TypedLemmas
+mod TypingLaws
+mod WalkOf
+mod WritingLemmas

@@ -1,14 +1,12 @@
--- A part of a run's work: what it comes to by the words, the files and the script, and what a body that does it may
--- answer. All of it is this project's own.
-use Rattle.std.specs.Prelude.{◌≡◌, ⊤, Result, Ok, Err}
+-- A part of a run's work: what it comes to by the words, the files and the script. All of it is this project's own.
+use Rattle.std.specs.Prelude.{◌≡◌, ⊤, Bool, true, false, Option, None, Some}
 use Rattle.prefsql_session.specs.declared.fault.Fault.{Fault}
-use Rattle.prefsql_session.specs.declared.fault.Fault.TheVariants.{Table, Script}
-use Rattle.prefsql_session.specs.declared.fault.Stop.{Stop}
-use Rattle.prefsql_session.specs.declared.fault.Stop.TheVariants.{Usage, Refused, ReadFault, ShelfFault, Memory}
 
 pub data Stage (T : Type 0) : Type 0 where
-  -- what decides it isn't told
+  -- what decides it is not told
   untold : Stage T
+  -- it has no good end, but whether it has a fault or a path is not held is not told
+  barred : Stage T
   -- the words are not accepted
   unaccepted : Stage T
   -- a path is not held, and the run ends there
@@ -18,43 +16,33 @@ pub data Stage (T : Type 0) : Type 0 where
   ready : T → Stage T
 
 -- one part, and then another
-abbrev pub then : {T U : Type 0} → Stage T → (T → Stage U) → Stage U
-then untold next = untold
-then unaccepted next = unaccepted
-then missing next = missing
-then (faulty fault) next = faulty fault
-then (ready value) next = next value
+abbrev pub and_then : {T U : Type 0} → Stage T → (T → Stage U) → Stage U
+and_then untold next = untold
+and_then barred next = barred
+and_then unaccepted next = unaccepted
+and_then missing next = missing
+and_then (faulty fault) next = faulty fault
+and_then (ready value) next = next value
 
--- it is this, where it is told
-abbrev pub ComesTo : {T : Type 0} → Stage T → Stage T → Type 0
-ComesTo untold end = ⊤
-ComesTo unaccepted end = end ≡ unaccepted
-ComesTo missing end = end ≡ missing
-ComesTo (faulty fault) end = end ≡ faulty fault
-ComesTo (ready value) end = end ≡ ready value
+-- a value, or this end where there is none
+abbrev pub ready_or : {T : Type 0} → Stage T → Option T → Stage T
+ready_or end None = end
+ready_or end (Some value) = ready value
 
--- the words and the tables have no fault and each path is held, where that is told
-abbrev pub IsPastTables : {T : Type 0} → Stage T → Type 0
-IsPastTables untold = ⊤
-IsPastTables unaccepted = ⊥
-IsPastTables missing = ⊥
-IsPastTables (faulty (Table name spot)) = ⊥
-IsPastTables (faulty (Script spot)) = ⊤
-IsPastTables (ready value) = ⊤
+-- what is not told has no good end where something else bars it
+abbrev pub barred_if : {T : Type 0} → Bool → Stage T → Stage T
+barred_if true untold = barred
+barred_if bars stage = stage
 
--- the words are accepted
-abbrev pub IsAccepted : {T : Type 0} → Stage T → Type 0
-IsAccepted untold = ⊤
-IsAccepted unaccepted = ⊥
-IsAccepted missing = ⊤
-IsAccepted (faulty fault) = ⊤
-IsAccepted (ready value) = ⊤
+-- it comes to this value, where that is told
+abbrev pub MayGive : {T : Type 0} → Stage T → T → Type 0
+MayGive untold value = ⊤
+MayGive (ready found) value = found ≡ value
+MayGive end value = ⊥
 
--- what a body that does this part may answer
-abbrev pub Follows : {T : Type 0} → Stage T → Result T Stop → Type 0
-Follows stage (Ok value) = ComesTo stage (ready value)
-Follows stage (Err Usage) = stage ≡ unaccepted
-Follows stage (Err (Refused fault)) = ComesTo stage (faulty fault)
-Follows stage (Err ReadFault) = IsPastTables stage
-Follows stage (Err ShelfFault) = IsAccepted stage
-Follows stage (Err Memory) = ⊤
+-- it is refused for this fault, where that is told
+abbrev pub MayHaveFault : {T : Type 0} → Stage T → Fault → Type 0
+MayHaveFault untold fault = ⊤
+MayHaveFault barred fault = ⊤
+MayHaveFault (faulty first) fault = first ≡ fault
+MayHaveFault end fault = ⊥

@@ -1,23 +1,10 @@
-ghost use Rattle.std.specs.Prelude.{◌≡◌, IfOk};
-ghost use Rattle.std.specs.String.{string_bytes};
+ghost use Rattle.std.specs.Prelude.{◌≡◌};
 
+use prefsql_lexer::{LexFault, Spot};
 use prefsql_values::{Memory, Text};
-use std::alloc::{AllocError, Global};
-
-/// A fault of a script: the number of its code, and how many bytes stand before it.
-#[derive(Clone, Copy, Debug, PartialEq, Eq)]
-pub(crate) struct Spot {
-    pub(crate) code: u16,
-    pub(crate) at: u32,
-}
-
-/// A fault of a table file: the number of its code, its record and its field, both from 1. Record 0 field 0 is the file.
-#[derive(Clone, Copy, Debug, PartialEq, Eq)]
-pub(crate) struct TableSpot {
-    pub(crate) code: u16,
-    pub(crate) at_record: u32,
-    pub(crate) at_field: u32,
-}
+use query_parser::ParseFault;
+use query_typing::TypeFault;
+use table_csv::TableSpot;
 
 /// The first fault of a run: of the table with this name, or of the script.
 #[derive(Debug, Drop)]
@@ -26,7 +13,7 @@ pub(crate) enum Fault {
     Script(Spot),
 }
 
-/// Why a run has nothing to answer.
+/// Why a run has nothing to write.
 #[derive(Debug, Drop)]
 pub(crate) enum Stop {
     /// The words are not accepted.
@@ -48,6 +35,45 @@ impl From<Memory> for Stop {
 
     fn from(_memory: Memory) -> Stop {
         Stop::Memory
+    }
+}
+
+impl From<LexFault> for Stop {
+    ghost use Rattle.prefsql_session.specs.Stops.{lexing};
+
+    ghost from_gives = { λ fault e. e ≡ lexing fault };
+
+    fn from(fault: LexFault) -> Stop {
+        match fault {
+            LexFault::Bad(spot) => Stop::Refused(Fault::Script(spot)),
+            LexFault::Memory => Stop::Memory,
+        }
+    }
+}
+
+impl From<ParseFault> for Stop {
+    ghost use Rattle.prefsql_session.specs.Stops.{parsing};
+
+    ghost from_gives = { λ fault e. e ≡ parsing fault };
+
+    fn from(fault: ParseFault) -> Stop {
+        match fault {
+            ParseFault::Bad(spot) => Stop::Refused(Fault::Script(spot)),
+            ParseFault::Memory => Stop::Memory,
+        }
+    }
+}
+
+impl From<TypeFault> for Stop {
+    ghost use Rattle.prefsql_session.specs.Stops.{typing};
+
+    ghost from_gives = { λ fault e. e ≡ typing fault };
+
+    fn from(fault: TypeFault) -> Stop {
+        match fault {
+            TypeFault::Bad(spot) => Stop::Refused(Fault::Script(spot)),
+            TypeFault::Memory => Stop::Memory,
+        }
     }
 }
 

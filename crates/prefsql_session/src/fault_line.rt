@@ -2,9 +2,10 @@ ghost use Rattle.std.specs.Prelude.{◌≡◌, IfOk};
 ghost use Rattle.std.specs.String.{string_bytes};
 ghost use Rattle.prefsql_session.specs.Faults.{fault_line, table_fault_line, script_fault_line};
 
-use crate::{Fault, Spot, TableSpot};
-use prefsql_values::Text;
+use crate::fault::Fault;
+use prefsql_lexer::Spot;
 use std::alloc::{AllocError, Global};
+use table_csv::TableSpot;
 
 fn table_line(alloc: Global, name: &str, spot: TableSpot) -> Result<String, AllocError>
     ensures { IfOk result (λ line. string_bytes line ≡ table_fault_line name.now spot) }

@@ -1,22 +1,22 @@
 //! The top call: from the words, the files and the script to what is written.
 #![tactic(auto)]
 
-mod answer;
+mod command;
+mod command_line;
 mod fault;
 mod fault_line;
-mod names;
 mod prepare;
-mod question;
+mod reader;
+mod script;
 mod session;
-mod simple_script;
-mod simple_table;
-mod words;
+mod table_words;
+mod tables;
+mod work;
+mod writing;
 
-use fault::{Fault, Spot, Stop, TableSpot};
-use question::Question;
+use command::{Command, TableWord, Task};
+use command_line::accepted;
 pub use session::{Status, run};
-use simple_table::SimpleTable;
-use words::TableWord;
 
 #[cfg(test)]
 mod tests;

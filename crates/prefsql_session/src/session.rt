@@ -1,18 +1,18 @@
 ghost use Rattle.std.specs.Prelude.{◌≡◌, ◌⊎◌, IsTrue};
 ghost use Rattle.std.specs.Io.KnownBytes.{IsAtEnd};
 ghost use Rattle.prefsql_io.specs.Counts.{Rose, IsQuiet};
-ghost use Rattle.prefsql_session.specs.AnswerText.{IsAnswer, IsAnswerable};
-ghost use Rattle.prefsql_session.specs.Course.{course};
+ghost use Rattle.prefsql_session.specs.CommandLine.{accepted};
+ghost use Rattle.prefsql_session.specs.Course.{Comes, HasOneEnd};
 ghost use Rattle.prefsql_session.specs.Faults.{fault_line, usage_line};
+ghost use Rattle.prefsql_session.specs.Opening.{opening};
 ghost use Rattle.prefsql_session.specs.Stage.{missing};
 
-use crate::answer::answer;
-use crate::fault::USAGE;
+use crate::fault::{Fault, Stop, USAGE};
 use crate::fault_line::fault_line;
 use crate::prepare::prepare;
-use crate::{Fault, Question, Stop};
+use crate::writing::write_work;
 use prefsql_io::{Shelf, Sink, Source, write_all};
-use prefsql_values::{Memory, Steps, Text};
+use prefsql_values::{Steps, Text};
 use std::alloc::Global;
 use std::sync::ledger::Ledger;
 
@@ -21,7 +21,7 @@ use std::sync::ledger::Ledger;
 pub enum Status {
     /// The script was read to its end, and the whole text stands on `out`.
     Done,
-    /// A table file or the script has a fault, and its line stands on `err`.
+    /// A table word, a table file or the script has a fault, and the line of the first one stands on `err`.
     Refused,
     /// The words are not accepted, and the usage line stands on `err`.
     Usage,
@@ -35,12 +35,14 @@ pub enum Status {
     ShelfFault,
 }
 
-ghost use Rattle.prefsql_session.specs.Run.{EndsAt, FallsShort, HasOneText, IsDueOf, IsReady, IsTextOf, Writes, WritesText, WritesDue};
+ghost use Rattle.prefsql_session.specs.Parts.{WritesLine};
+ghost use Rattle.prefsql_session.specs.Run.{AtEnd, EndsAt, FallsShort, IsDueOf, IsGood, IsTextOf, WritesDue, WritesText};
 
 // Writes these bytes. Where they can't be written, that is how the run ends.
 fn put<O: Sink>(sink: &mut O, bytes: &[u8], status: Status) -> Status
-    ensures { Writes (λ wanted. wanted ≡ bytes.now) status (O.faults sink.old) (O.faults sink.new)
+    ensures wrote { WritesLine (λ wanted. wanted ≡ bytes.now) status (O.faults sink.old) (O.faults sink.new)
         (O.written sink.old) (O.written sink.new) result }
+    ensures kept { (result ≡ Status.WriteFault → ⊥) → O.faults sink.new ≡ O.faults sink.old }
 {
     match write_all(sink, bytes) {
         Ok(()) => status,
@@ -48,22 +50,11 @@ fn put<O: Sink>(sink: &mut O, bytes: &[u8], status: Status) -> Status
     }
 }
 
-// Writes the answer to a question on `out`.
-fn write_answer<O: Sink>(alloc: Global, question: &Question, out: &mut O) -> Status
-    requires { IsAnswerable question.now }
-    ensures { Writes (IsAnswer question.now) Status.Done (O.faults out.old) (O.faults out.new)
-        (O.written out.old) (O.written out.new) result }
-{
-    match answer(alloc, question) {
-        Ok(text) => put(out, text.as_slice(), Status::Done),
-        Err(Memory) => Status::Memory,
-    }
-}
-
 // Writes the line of a fault on `err`.
 fn refuse<E: Sink>(alloc: Global, fault: &Fault, err: &mut E) -> Status
-    ensures { Writes (λ line. line ≡ fault_line fault.now) Status.Refused (E.faults err.old) (E.faults err.new)
+    ensures wrote { WritesLine (λ line. line ≡ fault_line fault.now) Status.Refused (E.faults err.old) (E.faults err.new)
         (E.written err.old) (E.written err.new) result }
+    ensures kept { (result ≡ Status.WriteFault → ⊥) → E.faults err.new ≡ E.faults err.old }
 {
     match fault_line(alloc, fault) {
         Ok(line) => put(err, line.as_bytes(), Status::Refused),
@@ -73,16 +64,16 @@ fn refuse<E: Sink>(alloc: Global, fault: &Fault, err: &mut E) -> Status
 
 // Writes the line for words that are not accepted on `err`.
 fn refuse_words<E: Sink>(err: &mut E) -> Status
-    ensures { Writes (λ line. line ≡ usage_line) Status.Usage (E.faults err.old) (E.faults err.new)
+    ensures wrote { WritesLine (λ line. line ≡ usage_line) Status.Usage (E.faults err.old) (E.faults err.new)
         (E.written err.old) (E.written err.new) result }
+    ensures kept { (result ≡ Status.WriteFault → ⊥) → E.faults err.new ≡ E.faults err.old }
 {
     put(err, USAGE.as_bytes(), Status::Usage)
 }
 
-/// Runs the program over these words, which are those after its name. What the words, the files and the script come to
-/// is the run's course, and what the run writes and how it ends follow from that, want of memory and the faults of the
-/// four outer objects. So far the words are `answer` and one `NAME=PATH`, and the file and the script are simple ones.
-/// No step is counted yet.
+/// Runs the program over these words, which are those after its name: `answer`, at most eight table words `NAME=PATH` and one
+/// `--`. What the words, the files and the script come to is the run's course, and what the run writes and how it ends follow
+/// from that, want of memory and the faults of the four outer objects. No step is counted yet.
 pub fn run<S: Source, O: Sink, E: Sink, H: Shelf, L: Ledger>(
     alloc: Global,
     words: &[Text],
@@ -92,36 +83,43 @@ pub fn run<S: Source, O: Sink, E: Sink, H: Shelf, L: Ledger>(
     shelf: &mut H,
     steps: &mut Steps<L>,
 ) -> Status
-    ensures status { EndsAt (course words.now (H.files shelf.old) (S.left script.old)) result }
+    ensures status { EndsAt (Comes words.now (H.files shelf.old) (S.left script.old))
+        (opening words.now (H.files shelf.old)) (accepted words.now) result }
 
     // What stands on `out` and on `err` then.
-    ensures text { WritesText (course words.now (H.files shelf.old) (S.left script.old)) result
+    ensures text { WritesText (Comes words.now (H.files shelf.old) (S.left script.old)) result
         (O.written out.old) (O.written out.new) }
-    ensures one_text { HasOneText (course words.now (H.files shelf.old) (S.left script.old)) }
-    ensures due { WritesDue (course words.now (H.files shelf.old) (S.left script.old)) result
+    ensures one_end { HasOneEnd (Comes words.now (H.files shelf.old) (S.left script.old)) }
+    ensures due { WritesDue (Comes words.now (H.files shelf.old) (S.left script.old)) result
         (E.written err.old) (E.written err.new) }
     ensures read_whole { result ≡ Status.Done → IsAtEnd (S.left script.new) }
 
     // No fault is answered by itself.
     ensures read_fault { result ≡ Status.ReadFault → Rose (S.faults script.old) (S.faults script.new) }
     ensures write_fault { result ≡ Status.WriteFault
-        → FallsShort (IsTextOf (course words.now (H.files shelf.old) (S.left script.old)))
+        → FallsShort (IsTextOf (Comes words.now (H.files shelf.old) (S.left script.old)))
         (O.faults out.old) (O.faults out.new) (O.written out.old) (O.written out.new)
-        ⊎ FallsShort (IsDueOf (course words.now (H.files shelf.old) (S.left script.old)))
+        ⊎ FallsShort (IsDueOf (Comes words.now (H.files shelf.old) (S.left script.old)))
         (E.faults err.old) (E.faults err.new) (E.written err.old) (E.written err.new) }
     ensures shelf_fault { result ≡ Status.ShelfFault → Rose (H.faults shelf.old) (H.faults shelf.new) }
     ensures sure_shelf { IsTrue (H.sure shelf.old) → result ≡ Status.ShelfFault
-        → course words.now (H.files shelf.old) (S.left script.old) ≡ missing }
+        → opening words.now (H.files shelf.old) ≡ missing }
+
+    // No fault is passed over: a count rises only where the run ends for it.
+    ensures script_kept { (result ≡ Status.ReadFault → ⊥) → S.faults script.new ≡ S.faults script.old }
+    ensures sinks_kept { (result ≡ Status.WriteFault → ⊥)
+        → (O.faults out.new ≡ O.faults out.old) × (E.faults err.new ≡ E.faults err.old) }
+    ensures shelf_kept { (result ≡ Status.ShelfFault → ⊥) → H.faults shelf.new ≡ H.faults shelf.old }
 
     // A run without a fault is done, where memory is granted.
-    ensures complete { IsReady (course words.now (H.files shelf.old) (S.left script.old))
+    ensures complete { AtEnd (Comes words.now (H.files shelf.old) (S.left script.old)) IsGood
         → IsQuiet (S.faults script.old) (S.faults script.new)
         → IsQuiet (O.faults out.old) (O.faults out.new) → IsQuiet (E.faults err.old) (E.faults err.new)
         → IsTrue (H.sure shelf.old) ⊎ IsQuiet (H.faults shelf.old) (H.faults shelf.new)
         → (result ≡ Status.Done) ⊎ (result ≡ Status.Memory) }
 {
     match prepare(alloc, words, script, shelf) {
-        Ok(question) => write_answer(alloc, &question, out),
+        Ok(work) => write_work(alloc, &work, out),
         Err(Stop::Usage) => refuse_words(err),
         Err(Stop::Refused(fault)) => refuse(alloc, &fault, err),
         Err(Stop::ReadFault) => Status::ReadFault,

@@ -1,0 +1,228 @@
+-- The words, the tables and the script, one after the other.
+use Rattle.std.proofs.Common.{◌≡◌, ◌<◌, ◌≤◌, ◌+◌, ◌∙◌, ℕ, List, [], ◌∷◌, length, All, Option, Some, None, Result, Ok, Err, inl, inr, refl, sym, ap, subst, arith, length-append}
+use Rattle.std.specs.Prelude.{IfSome}
+use Rattle.prefsql_io.specs.Files.{Files}
+use Rattle.prefsql_io.specs.Streams.{TakesPast}
+use Rattle.prefsql_tables.specs.Table.{Tables}
+use Rattle.query_meaning.specs.declared.block.Block.{Block}
+use Rattle.prefsql_lexer.specs.Tokens.{IsTokens}
+use Rattle.prefsql_lexer.specs.declared.fault.Spot.{Spot}
+use Rattle.prefsql_lexer.specs.declared.token.Token.{Token}
+use Rattle.query_grammar.specs.Scripts.{IsFault, IsScript}
+use Rattle.query_parser.specs.Script.{SaysFault}
+use Rattle.query_parser.specs.declared.fault.ParseFault.{ParseFault}
+use Rattle.query_parser.specs.declared.fault.ParseFault.TheVariants as parse
+use Rattle.query_tree.specs.declared.query.QueryTree.{QueryTree}
+use Rattle.query_typing.specs.Typing.{IsFirstOfScript, Types}
+use Rattle.query_typing.specs.declared.fault.TypeFault.{TypeFault}
+use Rattle.query_typing.specs.declared.fault.TypeFault.TheVariants as type
+use Rattle.prefsql_values.specs.Limits.{IsName}
+use Rattle.prefsql_session.specs.Stops.{parsing, typing}
+use Rattle.prefsql_session.proofs.NameLemmas.{IsNamedCommand}
+use Rattle.prefsql_session.specs.Course.{Comes, GoesOn}
+use Rattle.prefsql_session.specs.CommandLine.{accepted}
+use Rattle.prefsql_session.specs.Opening.{Job, over, job_stage, opening, tables_stage}
+use Rattle.prefsql_session.specs.Parts.{Asks, Ends, Opens, Prepares, Reads}
+use Rattle.prefsql_session.specs.Run.{AsksForTables, AtEnd, MayAskScript}
+use Rattle.prefsql_session.specs.ScriptEnd.{AsksFor, HasQueryFault, script_limit}
+use Rattle.prefsql_session.specs.Stage.{Stage, untold, barred, unaccepted, missing, faulty, ready, and_then, ready_or, MayGive, MayHaveFault}
+use Rattle.prefsql_session.specs.declared.command.Command.{Command}
+use Rattle.prefsql_session.specs.declared.command.Command.TheVariants.{OnScript}
+use Rattle.prefsql_session.specs.declared.command.TableWord.{TableWord}
+use Rattle.prefsql_session.specs.declared.command.Task.{Task}
+use Rattle.prefsql_session.specs.declared.command.Task.TheVariants.{Answer}
+use Rattle.prefsql_session.specs.declared.fault.Fault.{Fault}
+use Rattle.prefsql_session.specs.declared.fault.Fault.TheVariants.{Table, Script}
+use Rattle.prefsql_session.specs.declared.fault.Stop.{Stop}
+use Rattle.prefsql_session.specs.declared.fault.Stop.TheVariants.{Usage, Refused, ReadFault, ShelfFault, Memory}
+use Rattle.prefsql_session.specs.declared.work.Work.{Work}
+use Rattle.prefsql_session.specs.declared.work.Work.TheVariants.{Statements}
+
+-- ---- the script
+
+-- more than the limit was there
+pub past_limit : (old new : Option (List ℕ)) (limit : ℕ) → TakesPast old new limit → IfSome old (λ all. limit < length all)
+past_limit None new limit past = tt
+past_limit (Some all) None limit past = absurd past.2
+past_limit (Some all) (Some rest) limit past =
+    let parts : length all ≡ length past.0 + length rest = ap length past.2 ∙ length-append past.0 rest in
+    omega (arith, parts, past.1)
+
+-- a script that is too long
+pub too_long : (task : Task) (tables : Tables) (script : Option (List ℕ)) (fault : Fault) → IfSome script (λ all. script_limit task < length all)
+    → fault ≡ Script (record { code = 106; at = script_limit task }) → Ends task tables script (Err (Refused fault))
+too_long task tables None fault long is = (untold, refl, tt)
+too_long task tables (Some all) fault long is =
+    subst (λ f. Ends task tables (Some all) (Err (Refused f))) (sym is)
+    (faulty (Script (record { code = 106; at = script_limit task })), inl (record { long = long; place = refl }), refl)
+
+-- a script that could not be read whole
+pub unread : (task : Task) (tables : Tables) (script : Option (List ℕ)) (limit : ℕ) (stop : Stop) → limit ≡ script_limit task → Reads limit script (Err stop)
+    → Ends task tables script (Err stop)
+unread task tables script limit Usage e is = absurd is
+unread task tables script limit ReadFault e is = tt
+unread task tables script limit ShelfFault e is = absurd is
+unread task tables script limit Memory e is = tt
+unread task tables script limit (Refused fault) e is =
+    too_long task tables script fault (subst (λ (n : ℕ). IfSome script (λ all. n < length all)) e is.0)
+    (subst (λ (n : ℕ). fault ≡ Script (record { code = 106; at = n })) e is.1)
+
+-- a script that was read
+pub within : (task : Task) (limit : ℕ) (items text : List ℕ) → limit ≡ script_limit task → text ≡ items → length items ≤ limit → length text ≤ 1048576
+within Answer limit items text e same short =
+    let long : length text ≡ length items = ap length same in omega (arith, e, long, short)
+
+-- the script that is told is the text
+told_text : (limit : ℕ) (script : Option (List ℕ)) (items text : List ℕ) → text ≡ items → (length items ≤ limit) × IfSome script (λ all. all ≡ items)
+    → IfSome script (λ all. all ≡ text)
+told_text limit None items text same is = tt
+told_text limit (Some all) items text same is = is.1 ∙ sym same
+
+query_asked : (tables : Tables) (script : Option (List ℕ)) (text : List ℕ) (blocks : List Block) → length text ≤ 1048576 → IfSome script (λ all. all ≡ text)
+    → AsksFor tables text blocks → Ends Answer tables script (Ok (Statements Answer tables blocks))
+query_asked tables None text blocks short same asks = (untold, refl, tt)
+query_asked tables (Some all) text blocks short same asks = (
+  ready (Statements Answer tables blocks),
+  subst (λ (t : List ℕ). (length t ≤ 1048576) × ((bs : List Block) × AsksFor tables t bs × (Statements Answer tables blocks ≡ Statements Answer tables bs))) (sym same)
+      (short, (blocks, asks, refl)),
+  refl,
+)
+
+query_stopped : (tables : Tables) (script : Option (List ℕ)) (text : List ℕ) (stop : Stop) → length text ≤ 1048576 → IfSome script (λ all. all ≡ text)
+    → Asks tables text (Err stop) → Ends Answer tables script (Err stop)
+query_stopped tables script text Usage short same is = absurd is
+query_stopped tables script text ReadFault short same is = absurd is
+query_stopped tables script text ShelfFault short same is = absurd is
+query_stopped tables script text Memory short same is = tt
+query_stopped tables script text (Refused (Table name spot)) short same is = absurd is
+query_stopped tables None text (Refused (Script spot)) short same is = (untold, refl, tt)
+query_stopped tables (Some all) text (Refused (Script spot)) short same is =
+    (faulty (Script spot), inr (subst (λ (t : List ℕ). (length t ≤ 1048576) × HasQueryFault tables t spot) (sym same) (short, is)), refl)
+
+-- what a preference script of this text asks for
+pub asked : (task : Task) (tables : Tables) (script : Option (List ℕ)) (limit : ℕ) (items text : List ℕ) (blocks : List Block) → limit ≡ script_limit task → text ≡ items
+    → (length items ≤ limit) × IfSome script (λ all. all ≡ items) → Asks tables text (Ok blocks) → Ends task tables script (Ok (Statements task tables blocks))
+asked Answer tables script limit items text blocks e same is asks =
+    query_asked tables script text blocks (within Answer limit items text e same is.0) (told_text limit script items text same is) asks
+
+-- its fault
+pub stopped : (task : Task) (tables : Tables) (script : Option (List ℕ)) (limit : ℕ) (items text : List ℕ) (stop : Stop) → limit ≡ script_limit task → text ≡ items
+    → (length items ≤ limit) × IfSome script (λ all. all ≡ items) → Asks tables text (Err stop) → Ends task tables script (Err stop)
+stopped Answer tables script limit items text stop e same is asks =
+    query_stopped tables script text stop (within Answer limit items text e same is.0) (told_text limit script items text same is) asks
+
+-- a script that cannot be parsed or typed
+pub parse_stopped : (tables : Tables) (text : List ℕ) (tokens seen : List Token) (end : ℕ) (fault : ParseFault) → IsTokens 64 text tokens → seen ≡ tokens → end ≡ length text
+    → SaysFault seen end fault → Asks tables text (Err (parsing fault))
+parse_stopped tables text tokens seen end (parse.Bad spot) are same at says =
+    inr (tokens, are, inl (subst (λ (n : ℕ). IsFault tokens n spot) at (subst (λ (ts : List Token). IsFault ts end spot) same says)))
+parse_stopped tables text tokens seen end parse.Memory are same at says = tt
+
+pub type_stopped : (tables : Tables) (text : List ℕ) (tokens seen : List Token) (trees seen_trees : List QueryTree) (fault : TypeFault) → IsTokens 64 text tokens
+    → seen ≡ tokens → IsScript seen trees → seen_trees ≡ trees → Types tables seen_trees (Err fault) → Asks tables text (Err (typing fault))
+type_stopped tables text tokens seen trees seen_trees (type.Bad spot) are same parsed same_trees says =
+    inr (
+      tokens,
+      are,
+      inr (
+        trees,
+        subst (λ (ts : List Token). IsScript ts trees) same parsed,
+        subst (λ (ts : List QueryTree). IsFirstOfScript tables ts spot) same_trees says,
+      ),
+    )
+type_stopped tables text tokens seen trees seen_trees type.Memory are same parsed same_trees says = tt
+
+-- ---- after the tables
+
+some_words : (task : Task) (words : List TableWord) → 0 < length words → AsksForTables (Some (OnScript task words))
+some_words task [] some = absurd (omega (arith, some))
+some_words task (word ∷ words) some = tt
+
+pub no_tables : (task : Task) (words : List TableWord) (s : Stage Tables) (script : Option (List ℕ)) (stop : Stop) → Opens s (Err stop)
+    → (stop ≡ ShelfFault → 0 < length words)
+    → Prepares (GoesOn (and_then s (λ tables. ready (over task tables))) script) (and_then s (λ tables. ready (over task tables))) (Some (OnScript task words)) (Err stop)
+no_tables task words s script Usage is some = absurd is
+no_tables task words s script ReadFault is some = absurd is
+no_tables task words s script ShelfFault is some = some_words task words (some refl)
+no_tables task words s script Memory is some = tt
+no_tables task words untold script (Refused fault) is some = (untold, refl, tt)
+no_tables task words barred script (Refused fault) is some = (barred, refl, tt)
+no_tables task words unaccepted script (Refused fault) is some = absurd is
+no_tables task words missing script (Refused fault) is some = absurd is
+no_tables task words (faulty first) script (Refused fault) is some = (faulty first, refl, is)
+no_tables task words (ready tables) script (Refused fault) is some = absurd is
+
+untold_goes : (script : Option (List ℕ)) (asked : Option Command) (task : Task) (tables : Tables) (r : Result Work Stop) → Ends task tables script r
+    → Prepares (GoesOn untold script) untold asked r
+untold_goes script asked task tables (Ok work) is = (untold, refl, tt)
+untold_goes script asked task tables (Err Usage) is = absurd is
+untold_goes script asked task tables (Err (Refused fault)) is = (untold, refl, tt)
+untold_goes script asked task tables (Err ReadFault) is = tt
+untold_goes script asked task tables (Err ShelfFault) is = absurd is
+untold_goes script asked task tables (Err Memory) is = tt
+
+ready_goes : (script : Option (List ℕ)) (asked : Option Command) (task : Task) (tables : Tables) (r : Result Work Stop) → Ends task tables script r
+    → Prepares (GoesOn (ready (over task tables)) script) (ready (over task tables)) asked r
+ready_goes script asked task tables (Ok work) is = is
+ready_goes script asked task tables (Err Usage) is = absurd is
+ready_goes script asked task tables (Err (Refused fault)) is = is
+ready_goes script asked task tables (Err ReadFault) is = tt
+ready_goes script asked task tables (Err ShelfFault) is = absurd is
+ready_goes script asked task tables (Err Memory) is = tt
+
+pub script_read : (task : Task) (s : Stage Tables) (script : Option (List ℕ)) (asked : Option Command) (tables : Tables) (r : Result Work Stop) → MayGive s tables
+    → Ends task tables script r
+    → Prepares (GoesOn (and_then s (λ tables. ready (over task tables))) script) (and_then s (λ tables. ready (over task tables))) asked r
+script_read task untold script asked tables r gives is = untold_goes script asked task tables r is
+script_read task barred script asked tables r gives is = absurd gives
+script_read task unaccepted script asked tables r gives is = absurd gives
+script_read task missing script asked tables r gives is = absurd gives
+script_read task (faulty fault) script asked tables r gives is = absurd gives
+script_read task (ready found) script asked tables r gives is =
+    subst (λ (ts : Tables). Prepares (GoesOn (ready (over task ts)) script) (ready (over task ts)) asked r) (sym gives)
+    (ready_goes script asked task tables r is)
+
+pub missing_tables : (task : Task) (s : Stage Tables) → s ≡ missing → and_then s (λ tables. ready (over task tables)) ≡ missing
+missing_tables task s is = ap (λ (t : Stage Tables). and_then t (λ tables. ready (over task tables))) is
+
+-- ---- after the words
+
+module _ (files : Option Files) (script : Option (List ℕ)) where
+  abbrev pub opens : Option Command → Stage Job
+  opens asked = and_then (ready_or unaccepted asked) (job_stage files)
+
+  pub prepared : (asked : Option Command) (command : Command) (r : Result Work Stop) → asked ≡ Some command
+      → Prepares (GoesOn (job_stage files command) script) (job_stage files command) (Some command) r
+      → Prepares (GoesOn (opens asked) script) (opens asked) asked r
+  prepared asked command r is prepares =
+      subst (λ (a : Option Command). Prepares (GoesOn (opens a) script) (opens a) a r) (sym is) prepares
+
+  pub refused_words : (asked : Option Command) → asked ≡ None → GoesOn (opens asked) script unaccepted
+  refused_words asked is = subst (λ (a : Option Command). GoesOn (opens a) script unaccepted) (sym is) refl
+
+  pub missing_job : (asked : Option Command) (command : Command) → asked ≡ Some command → job_stage files command ≡ missing → opens asked ≡ missing
+  missing_job asked command is job = ap opens is ∙ job
+
+-- ---- a command that is a task on a script
+
+module _ (command : Command) (task : Task) (words seen : List TableWord) (is : command ≡ OnScript task words) (same : seen ≡ words) where
+  command_seen : command ≡ OnScript task seen
+  command_seen = is ∙ ap (OnScript task) (sym same)
+
+  pub few_words : IsNamedCommand command → length seen ≤ 8
+  few_words named = let n = subst IsNamedCommand command_seen named in n.few
+
+  pub named_words : IsNamedCommand command → All (λ (word : TableWord). IsName word.name) seen
+  named_words named = let n = subst IsNamedCommand command_seen named in n.named
+
+  module _ (files : Option Files) (script : Option (List ℕ)) (asked : Option Command) (accepts : asked ≡ Some command) where
+    accepts_seen : asked ≡ Some (OnScript task seen)
+    accepts_seen = accepts ∙ ap Some command_seen
+
+    pub prepared_script : (r : Result Work Stop)
+        → Prepares (GoesOn (job_stage files (OnScript task seen)) script) (job_stage files (OnScript task seen)) (Some (OnScript task seen)) r
+        → Prepares (GoesOn (opens files script asked) script) (opens files script asked) asked r
+    prepared_script r prepares = prepared files script asked (OnScript task seen) r accepts_seen prepares
+
+    pub missing_script : job_stage files (OnScript task seen) ≡ missing → opens files script asked ≡ missing
+    missing_script job = missing_job files script asked (OnScript task seen) accepts_seen job

@@ -1,0 +1,32 @@
+-- What a run is to write at its good end. All of it is this project's own.
+use Rattle.std.specs.Prelude.{ℕ, List, All}
+use Rattle.std.specs.List.{flat_map}
+use Rattle.prefsql_tables.specs.Table.{Tables}
+use Rattle.query_meaning.specs.Answers.{answer_of}
+use Rattle.query_meaning.specs.BlockFits.{FitsTables, HasPlaces}
+use Rattle.query_meaning.specs.declared.block.Block.{Block}
+use Rattle.table_csv.specs.AnswerText.{text_of_answer}
+use Rattle.prefsql_session.specs.declared.command.Task.{Task}
+use Rattle.prefsql_session.specs.declared.command.Task.TheVariants.{Answer}
+use Rattle.prefsql_session.specs.declared.work.Work.{Work}
+use Rattle.prefsql_session.specs.declared.work.Work.TheVariants.{Statements}
+
+-- what the task asks of a statement: its answer as text
+abbrev pub statement_text : Task → Tables → Block → List ℕ
+statement_text Answer tables block = text_of_answer (answer_of tables block)
+
+-- the texts of the statements, one after the other
+abbrev pub text_of : Work → List ℕ
+text_of (Statements task tables blocks) = flat_map (statement_text task tables) blocks
+
+-- a query that has an answer over these tables
+pub record IsAnswerable (tables : Tables) (block : Block) : Type 0 where
+  pub places : HasPlaces block
+  pub fits : FitsTables tables block
+
+abbrev pub AreAnswerable : Tables → List Block → Type 0
+AreAnswerable tables = All (IsAnswerable tables)
+
+-- each statement has its text
+abbrev pub HasTexts : Work → Type 0
+HasTexts (Statements task tables blocks) = AreAnswerable tables blocks

@@ -1,0 +1,154 @@
+//! What scripts answer over the cars and the dealers.
+use super::case::{CHEAPEST, CHEAPEST_CARS, Case, answered, ends};
+use std::test::Fail;
+
+#[test]
+fn ids_of_cars(rt: HostRuntime) -> Result<(), Fail> {
+    let alloc = rt.alloc();
+    for (end, out) in [
+        ("PREFERRING price AROUND 40000", "ID\n1\n\n"),
+        (
+            "PREFERRING LOWEST(price) AND HIGHEST(power)",
+            "ID\n1\n2\n3\n4\n\n",
+        ),
+        (
+            "PREFERRING color = 'red' CASCADE LOWEST(price)",
+            "ID\n1\n\n",
+        ),
+        (
+            "WHERE id >= 4 PREFERRING color = 'red' AND LOWEST(price)",
+            "ID\n4\n\n",
+        ),
+        (
+            "WHERE id >= 4 PREFERRING color = 'red' TRIVIAL AND LOWEST(price)",
+            "ID\n4\n5\n\n",
+        ),
+        (
+            "WHERE color <> 'red' PREFERRING color EXPLICIT ('red' > 'blue')",
+            "ID\n2\n5\n\n",
+        ),
+        (
+            "WHERE color <> 'blue' PREFERRING color EXPLICIT ('red' > 'blue', 'blue' > 'grey')",
+            "ID\n1\n3\n\n",
+        ),
+        (
+            "PREFERRING LOWEST(price) GROUPING dealer",
+            "ID\n2\n3\n4\n\n",
+        ),
+        (
+            "PREFERRING price AROUND 45000 BUT ONLY DISTANCE(price) <= 1000",
+            "ID\n\n",
+        ),
+        (
+            "PREFERRING LOWEST(price) AND price AROUND 40000 BUT ONLY TOP(price)",
+            "ID\n1\n\n",
+        ),
+        (
+            "PREFERRING color = 'grey' ELSE color <> 'blue'",
+            "ID\n4\n\n",
+        ),
+        (
+            "WHERE id <> 4 PREFERRING color = 'grey' ELSE color <> 'blue'",
+            "ID\n1\n3\n\n",
+        ),
+        ("PREFERRING color <> 'red'", "ID\n2\n4\n5\n\n"),
+        (
+            "PREFERRING color = 'green' ELSE color = 'grey'",
+            "ID\n4\n\n",
+        ),
+        (
+            "WHERE id <> 4 PREFERRING color LAYERED (('grey'), OTHERS, ('red'))",
+            "ID\n2\n5\n\n",
+        ),
+        (
+            "WHERE dealer NOT IN ('north') PREFERRING LOWEST(price)",
+            "ID\n3\n\n",
+        ),
+    ] {
+        let script = format!(in alloc; "SELECT id FROM cars {end}")?;
+        assert!(rt; ends(alloc, &answered(script.as_bytes(), out))?, "{end}");
+    }
+    Ok(())
+}
+
+#[test]
+fn whole_answers(rt: HostRuntime) -> Result<(), Fail> {
+    let alloc = rt.alloc();
+    for (script, out) in [
+        ("", ""),
+        (CHEAPEST, CHEAPEST_CARS),
+        (
+            "SELECT id, LEVEL(color) FROM cars PREFERRING color EXPLICIT ('red' > 'blue')",
+            "ID,COL2\n1,1\n3,1\n\n",
+        ),
+        (
+            "SELECT c.id, d.city FROM cars c, dealers d WHERE c.id <> 2 AND c.dealer = d.name PREFERRING LOWEST(c.price)",
+            "ID,CITY\n1,Ulm\n\n",
+        ),
+        (
+            "SELECT id, color AS colour, LEVEL(color), DISTANCE(price) AS off FROM cars WHERE power >= 150 PREFERRING color IN ('red', 'blue') ELSE color <> 'grey' AND price BETWEEN 38000 AND 42000 CASCADE power IN (180, 200) BUT ONLY DISTANCE(price) <= 5000 ORDER BY colour; -- shop",
+            "ID,COLOUR,COL3,OFF\n2,blue,1,0\n1,red,1,0\n\n",
+        ),
+        (
+            "SELECT DISTINCT dealer, color FROM cars ORDER BY dealer DESC",
+            "DEALER,COLOR\n,blue\n,grey\nsouth,red\nnorth,blue\nnorth,red\n\n",
+        ),
+    ] {
+        assert!(rt; ends(alloc, &answered(script.as_bytes(), out))?, "{script}");
+    }
+    Ok(())
+}
+
+#[test]
+fn answers_over_other_tables(rt: HostRuntime) -> Result<(), Fail> {
+    let alloc = rt.alloc();
+    for (file, script, out) in [
+        (
+            "id INTEGER NOT NULL,color TEXT NOT NULL,price INTEGER NOT NULL,power INTEGER NOT NULL,dealer TEXT",
+            "SELECT id, price FROM t PREFERRING LOWEST(price)",
+            "ID,PRICE\n\n",
+        ),
+        (
+            "v INTEGER NOT NULL\n-999999999999999999",
+            "SELECT DISTANCE(v) FROM t PREFERRING v AROUND 999999999999999999",
+            "COL1\n1999999999999999998\n\n",
+        ),
+        (
+            "t TEXT NOT NULL\nplain\n\"it's, \"\"x\"\"\ny\"",
+            "SELECT t FROM t PREFERRING t = 'it''s, \"x\"\ny'",
+            "T\n\"it's, \"\"x\"\"\ny\"\n\n",
+        ),
+        (
+            "A INTEGER NOT NULL,B INTEGER NOT NULL\n3,7\n1,9\n2,7\n",
+            "SELECT * FROM T PREFERRING LOWEST(B)",
+            "A,B\n2,7\n3,7\n\n",
+        ),
+    ] {
+        let case = Case {
+            words: &["answer", "T=t.csv"],
+            files: &[("t.csv", file)],
+            ..answered(script.as_bytes(), out)
+        };
+        assert!(rt; ends(alloc, &case)?, "{script}");
+    }
+    Ok(())
+}
+
+#[test]
+fn as_much_as_the_limits_allow(rt: HostRuntime) -> Result<(), Fail> {
+    let alloc = rt.alloc();
+    let open = "(".repeat(alloc, 64)?;
+    let close = ")".repeat(alloc, 64)?;
+    let nested = format!(in alloc; "SELECT id FROM cars WHERE {open}id = 1{close}")?;
+    assert!(rt; ends(alloc, &answered(nested.as_bytes(), "ID\n1\n\n"))?);
+    let lowest = "LOWEST(id) AND ".repeat(alloc, 7)?;
+    let leaves = format!(in alloc; "SELECT id FROM cars PREFERRING {lowest}LOWEST(id)")?;
+    assert!(rt; ends(alloc, &answered(leaves.as_bytes(), "ID\n1\n\n"))?);
+    let ones = "1, ".repeat(alloc, 255)?;
+    let set = format!(in alloc; "SELECT id FROM cars PREFERRING id IN ({ones}1)")?;
+    assert!(rt; ends(alloc, &answered(set.as_bytes(), "ID\n1\n\n"))?);
+    let statements = "SELECT id FROM cars;".repeat(alloc, 64)?;
+    let answers = "ID\n1\n2\n3\n4\n5\n\n".repeat(alloc, 64)?;
+    assert!(rt; ends(alloc, &answered(statements.as_bytes(), answers.as_str()))?);
+    Ok(())
+}
