@@ -10,8 +10,4 @@ mod places;
 #[cfg(test)]
 mod shop;
 #[cfg(test)]
-mod terms;
-#[cfg(test)]
 mod window;
-#[cfg(test)]
-mod wishes;

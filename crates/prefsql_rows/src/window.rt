@@ -3,7 +3,6 @@ ghost use Rattle.std.specs.Prelude.{◌≡◌, ◌<◌, false, All, IfOk};
 ghost use Rattle.base_prefs.specs.RankedLaws.{IsRanked};
 ghost use Rattle.base_prefs.specs.declared.kind.Kind.TheVariants.{Lowest};
 
-use crate::shop::number;
 use base_prefs::{Ranked, lowest};
 use prefsql_values::{Memory, Steps, Value};
 use std::alloc::Global;
@@ -20,6 +19,14 @@ fn numbers(alloc: Global, written: &[i64]) -> Result<Vec<Value>, Memory>
         values.push(Value::Num(i128::from(*n)))?;
     }
     Ok(values)
+}
+
+/// The number, or 0.
+fn number(value: &Value) -> i128 {
+    match value {
+        Value::Num(n) => *n,
+        Value::Str(_) | Value::Null => 0,
+    }
 }
 
 /// The best of the numbers by LOWEST, and how many tests finding them took.
@@ -41,7 +48,7 @@ fn lowest_of<L: Ledger>(
     let chosen = best_of(alloc, &pref, numbers(alloc, written)?, &mut steps)?;
     let mut found = Vec::new(alloc);
     for value in chosen.items.as_slice() {
-        found.push(number(value.cell()))?;
+        found.push(number(value))?;
     }
     Ok((found, chosen.tests))
 }
@@ -50,14 +57,6 @@ fn lowest_of<L: Ledger>(
 fn equal_items_are_all_kept(rt: HostRuntime) -> Result<(), Fail> {
     let (found, tests) = lowest_of::<Brand>(rt.alloc(), &[1, 1, 1, 2], Blank::new(1))?;
     assert_eq!(rt; found.as_slice(), [1, 1, 1].as_slice());
-    assert!(rt; 1 <= tests && tests <= 16);
-    Ok(())
-}
-
-#[test]
-fn nothing_is_best_of_nothing(rt: HostRuntime) -> Result<(), Fail> {
-    let (found, tests) = lowest_of::<Brand>(rt.alloc(), &[], Blank::new(1))?;
-    assert!(rt; found.is_empty());
-    assert_eq!(rt; tests, 0);
+    assert!(rt; 1 <= tests && tests <= 4);
     Ok(())
 }

@@ -1,4 +1,0 @@
-use Rattle.prefsql_rows.proofs.terms.by_one_number.Given as goal
-
-abbrev pub ghosts-are_best : goal.ghosts-are_best
-ghosts-are_best g a = record { name = a.blank.name; parts = a.blank.parts }
