@@ -1,13 +1,8 @@
-//! Tests over several crates: worked rows over a table of five cars. Nothing stands on this crate.
+//! Tests over several crates: what is left of a term of base preferences, and the best of a list by one of them. Nothing
+//! stands on this crate.
 #![tactic(auto)]
 
 #[cfg(test)]
-mod blocks;
-#[cfg(test)]
 mod parts;
-#[cfg(test)]
-mod places;
-#[cfg(test)]
-mod shop;
 #[cfg(test)]
 mod window;
