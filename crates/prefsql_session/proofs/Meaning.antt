@@ -1,16 +1,15 @@
 -- The words that are accepted are those that `clap` takes with a command and its further words, and mean the same.
-use Rattle.std.proofs.Common.{◌≡◌, ◌∙◌, ◌+◌, ◌<◌, ◌≤◌, ℕ, List, [], ◌∷◌, ◌++◌, Bool, true, false, not, ◌&&◌, ◌||◌, cond, if◌then◌else◌, Option, Some, None, refl, sym, ap, ap₂, codes, zero, suc, subst, arith, true≢false, is_some, length, nat_lt, nat_le}
+use Rattle.std.proofs.Common.{◌≡◌, ◌∙◌, ◌+◌, ◌≤◌, ℕ, List, [], ◌∷◌, Bool, true, false, not, ◌&&◌, ◌||◌, if◌then◌else◌, Option, Some, None, refl, sym, ap, ap₂, codes, zero, suc, subst, arith, true≢false, is_some, length, nat_lt, nat_le}
 use Rattle.std.specs.List.{fold, list_all, before_first}
 use Rattle.std.specs.Option.{option_map_or, option_map, option_and_then}
-use Rattle.std.specs.Prelude.{◌==◌, unwrap_or}
-use Rattle.std.specs.Str.{bytes_eq}
+use Rattle.std.specs.Prelude.{◌==◌}
 use Rattle.clap.proofs.TakesLemmas.{leaf_takes}
 use Rattle.clap.specs.Faults.{fault_of, walk_fault}
 use Rattle.clap.specs.Simple.{built, matches_of}
-use Rattle.clap.specs.Takes.{bundle_passes, flag_word_passes, step_passes, turn_passes, is_valid, level_passes, settle_passes, takes, walk_passes}
+use Rattle.clap.specs.Takes.{bundle_passes, flag_word_passes, step_passes, turn_passes, is_valid, takes, walk_passes}
 use Rattle.clap.specs.Values.{bool_text}
-use Rattle.clap.specs.Walk.{Held, Row, Step, Text, Walk, all_of, finished, first_of, nothing_held, one_of, rows_after, value, walk, walk_from, walked, with_default, word_met}
-use Rattle.prefsql_session.specs.CommandLine.{begins_plain, is_plain, each, is_identifier, table_word, table_words, task_named, accepted, command_of, is_end, is_stats, operands, stats_among}
+use Rattle.clap.specs.Walk.{Held, Step, Text, Walk, finished, nothing_held, value, walk, walk_from, walked, with_default, word_met}
+use Rattle.prefsql_session.specs.CommandLine.{begins_plain, is_plain, each, is_identifier, table_word, task_named, accepted, command_of, operands, stats_among}
 use Rattle.prefsql_session.specs.declared.command.Command.TheVariants.{OnScript}
 use Rattle.prefsql_session.specs.declared.command.Task.{Task}
 use Rattle.prefsql_session.specs.WordsApp.{Reads, words_app}

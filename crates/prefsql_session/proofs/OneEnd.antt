@@ -1,9 +1,8 @@
 -- A run comes to one end.
-use Rattle.std.proofs.Common.{◌≡◌, ◌∙◌, ◌≤◌, ◌<◌, ◌⊎◌, inl, inr, ℕ, List, [], ◌∷◌, Option, None, Some, refl, sym, ap, ap₂, subst, length, take, drop, arith}
+use Rattle.std.proofs.Common.{◌≡◌, ◌∙◌, ◌⊎◌, inl, inr, ℕ, List, [], ◌∷◌, Option, None, Some, sym, ap, subst, length, take, drop, arith}
 use Rattle.grammar_forms.specs.Form.{IsLongest}
 use Rattle.prefsql_io.specs.Files.{Files}
 use Rattle.prefsql_lexer.proofs.OneAnswer.{fault_one, tokens_one, tokens_or_fault}
-use Rattle.prefsql_lexer.specs.Tokens.{IsFirstFault, IsTokens}
 use Rattle.prefsql_lexer.specs.declared.fault.Spot.{Spot}
 use Rattle.prefsql_lexer.specs.declared.token.Token.{Token}
 use Rattle.prefsql_tables.specs.Table.{Tables}
@@ -18,7 +17,7 @@ use Rattle.prefsql_session.specs.Course.{Comes, GoesOn, HasOneEnd, ScriptComesTo
 use Rattle.query_typing.specs.Typing.{AreTyped, IsFirstOfScript}
 use Rattle.prefsql_session.proofs.TypingLaws.{one_blocks, one_typing_fault, typing_apart}
 use Rattle.prefsql_session.specs.Opening.{Job, over, opening}
-use Rattle.prefsql_session.specs.ScriptEnd.{AsksFor, HasFault, HasQueryFault, IsScriptFault, IsScriptWork, IsTooLong, IsWork}
+use Rattle.prefsql_session.specs.ScriptEnd.{AsksFor, HasFault, HasQueryFault, IsScriptFault, IsScriptWork, IsWork}
 use Rattle.prefsql_session.specs.declared.work.Work.{Work}
 use Rattle.prefsql_session.specs.declared.work.Work.TheVariants.{Statements}
 use Rattle.prefsql_session.specs.Stage.{Stage, untold, barred, unaccepted, missing, faulty, ready}

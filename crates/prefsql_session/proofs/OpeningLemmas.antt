@@ -1,12 +1,11 @@
 -- Tables, one after another.
-use Rattle.std.proofs.Common.{◌≡◌, ◌∙◌, ℕ, suc, ◌+◌, ◌<◌, ◌≤◌, List, [], ◌∷◌, ◌++◌, length, drop, get_or, map, Bool, true, false, ◌||◌, if◌then◌else◌, cond, Option, Some, None, Result, Ok, Err, refl, sym, ap, subst, nat_lt, arith, Vec, Global}
+use Rattle.std.proofs.Common.{◌≡◌, ◌∙◌, ℕ, suc, ◌+◌, ◌<◌, ◌≤◌, List, [], ◌∷◌, ◌++◌, length, drop, get_or, map, Bool, true, false, ◌||◌, if◌then◌else◌, Option, Some, None, Result, Ok, Err, refl, sym, ap, subst, nat_lt, arith, Vec, Global}
 use Rattle.std.proofs.Math.Seq.{drop-cons}
 use Rattle.std.proofs.lemmas.Bool.Decides.{nat_tests}
 use Rattle.std.proofs.lemmas.List.{length-append, map-append}
 use Rattle.std.specs.Prelude.{Contains, IsNone, IsSome, is_some, ◌↔◌}
 use Rattle.std.proofs.lemmas.Bool.{false≢true}
 use Rattle.prefsql_tables.proofs.PlaceLemmas.{name_found}
-use Rattle.std.specs.Str.{bytes_eq}
 use Rattle.prefsql_io.specs.Files.{Files, IsHeld, LoadGives, LoadTells, bytes_at}
 use Rattle.prefsql_io.specs.declared.shelf.LoadError.TheVariants.{TooLong}
 use Rattle.prefsql_tables.specs.Names.{IsPlaceAmong, table_names}

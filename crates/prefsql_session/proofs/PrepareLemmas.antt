@@ -6,7 +6,6 @@ use Rattle.prefsql_io.specs.Streams.{TakesPast}
 use Rattle.prefsql_tables.specs.Table.{Tables}
 use Rattle.query_meaning.specs.declared.block.Block.{Block}
 use Rattle.prefsql_lexer.specs.Tokens.{IsTokens}
-use Rattle.prefsql_lexer.specs.declared.fault.Spot.{Spot}
 use Rattle.prefsql_lexer.specs.declared.token.Token.{Token}
 use Rattle.query_grammar.specs.Scripts.{IsFault, IsScript}
 use Rattle.query_parser.specs.Script.{SaysFault}
@@ -19,13 +18,12 @@ use Rattle.query_typing.specs.declared.fault.TypeFault.TheVariants as type
 use Rattle.prefsql_values.specs.Limits.{IsName}
 use Rattle.prefsql_session.specs.Stops.{parsing, typing}
 use Rattle.prefsql_session.proofs.NameLemmas.{IsNamedCommand}
-use Rattle.prefsql_session.specs.Course.{Comes, GoesOn}
-use Rattle.prefsql_session.specs.CommandLine.{accepted}
-use Rattle.prefsql_session.specs.Opening.{Job, over, job_stage, opening, tables_stage}
+use Rattle.prefsql_session.specs.Course.{GoesOn}
+use Rattle.prefsql_session.specs.Opening.{Job, over, job_stage}
 use Rattle.prefsql_session.specs.Parts.{Asks, Ends, Opens, Prepares, Reads}
-use Rattle.prefsql_session.specs.Run.{AsksForTables, AtEnd, MayAskScript}
+use Rattle.prefsql_session.specs.Run.{AsksForTables}
 use Rattle.prefsql_session.specs.ScriptEnd.{AsksFor, HasQueryFault, script_limit}
-use Rattle.prefsql_session.specs.Stage.{Stage, untold, barred, unaccepted, missing, faulty, ready, and_then, ready_or, MayGive, MayHaveFault}
+use Rattle.prefsql_session.specs.Stage.{Stage, untold, barred, unaccepted, missing, faulty, ready, and_then, ready_or, MayGive}
 use Rattle.prefsql_session.specs.declared.command.Command.{Command}
 use Rattle.prefsql_session.specs.declared.command.Command.TheVariants.{OnScript}
 use Rattle.prefsql_session.specs.declared.command.TableWord.{TableWord}

@@ -1,5 +1,5 @@
 -- What a run has written at each of its ends.
-use Rattle.std.proofs.Common.{◌≡◌, ◌∙◌, ℕ, List, Option, inl, inr, ◌⊎◌, sym, subst, ap}
+use Rattle.std.proofs.Common.{◌≡◌, ◌∙◌, ℕ, List, Option, inl, inr, sym, subst, ap}
 use Rattle.prefsql_session.specs.Course.{HasOneEnd}
 use Rattle.prefsql_session.specs.Parts.{WritesWork}
 use Rattle.prefsql_session.specs.Run.{AtEnd, FallsShort, GetsAll, GetsFront, IsGood, IsTextAt, IsTextOf, WritesText}

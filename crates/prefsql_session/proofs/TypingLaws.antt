@@ -1,6 +1,5 @@
 -- Typing a script comes to one end.
-use Rattle.std.proofs.Common.{◌≡◌, ◌∙◌, ◌+◌, ◌⊎◌, inl, inr, ℕ, List, [], ◌∷◌, true, false, map, refl, sym, ap, ap₂, subst, arith}
-use Rattle.std.specs.Prelude.{All, Any}
+use Rattle.std.proofs.Common.{◌≡◌, ◌∙◌, ◌+◌, inl, inr, ℕ, List, [], ◌∷◌, true, false, map, refl, sym, ap, ap₂, subst, arith}
 use Rattle.std.proofs.lemmas.Bool.{false≢true}
 use Rattle.std.proofs.lemmas.Bool.Decides.{nat_tests}
 use Rattle.prefsql_lexer.specs.declared.fault.Spot.{Spot}
@@ -23,7 +22,7 @@ use Rattle.query_typing.specs.Leaves.{bases_if}
 use Rattle.query_typing.specs.Obligations.{AllClausesMet, AllMet, IsFirstFault, IsFirstUnmet, Obligation, is_before, spot_of}
 use Rattle.query_typing.specs.Resolution.{AreLeavesOf, IsBlockOf, IsKindOf, IsLeafOf, resolved_block}
 use Rattle.query_typing.specs.Statements.{obligations}
-use Rattle.query_typing.specs.Typing.{AreTyped, IsFirstOfScript, IsTyped}
+use Rattle.query_typing.specs.Typing.{AreTyped, IsFirstOfScript}
 
 -- ---- one fault
 

@@ -1,13 +1,13 @@
 -- What `clap` makes of the words of a command line.
-use Rattle.std.proofs.Common.{◌≡◌, ◌∙◌, ◌+◌, ℕ, take, drop, arith, List, [], ◌∷◌, ◌++◌, Bool, true, false, not, ◌&&◌, ◌||◌, cond, Option, Some, None, refl, sym, ap, ap₂, codes, length, zero, suc, is_some, true≢false}
-use Rattle.std.specs.List.{fold, before_first, after_first, list_any, position_or_len}
+use Rattle.std.proofs.Common.{◌≡◌, ◌∙◌, ◌+◌, ℕ, take, drop, arith, List, [], ◌∷◌, Bool, true, false, not, ◌||◌, cond, Option, Some, None, refl, sym, ap, codes, length, suc, true≢false}
+use Rattle.std.specs.List.{before_first, after_first, list_any, position_or_len}
 use Rattle.std.specs.Str.{bytes_eq, chars}
 use Rattle.std.specs.Prelude.{slice_get, ⊤, ◌==◌, unwrap_or, option_and_then}
 use Rattle.std.proofs.lemmas.Option.{none-some}
 use Rattle.std.proofs.lemmas.Slice.Eq.{bytes_eq-Decides}
 use Rattle.clap.specs.Lexer.{name_and_value, has_byte, long_of_rest, strip_byte, long_of, short_of}
 use Rattle.clap.specs.Simple.{built, with_index, filled}
-use Rattle.clap.specs.Walk.{Held, subcommand_met, trailing, Outcome, Row, Rule, Step, Text, Waiting, Walk, idle, option, positional, settled, walked, word_met, arg_by_long, after_flag, plain_word, value, bundle, bundle_met, bundle_step, long_word, short_word, short_or_plain, long_or_other, flag_met, reacted, subcommand_or_other, walk_from, nothing_held, next, plain}
+use Rattle.clap.specs.Walk.{Held, subcommand_met, trailing, Outcome, Rule, Step, Text, Waiting, idle, option, positional, word_met, after_flag, plain_word, value, bundle_met, bundle_step, long_word, short_word, short_or_plain, long_or_other, flag_met, subcommand_or_other, plain}
 use Rattle.prefsql_session.specs.CommandLine.{is_end, is_stats}
 use Rattle.prefsql_session.specs.WordsApp.{stats_rule, words_app}
 

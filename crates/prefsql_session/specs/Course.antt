@@ -6,8 +6,7 @@ use Rattle.prefsql_session.specs.Opening.{Job, over, opening}
 use Rattle.prefsql_session.specs.ScriptEnd.{IsScriptFault, IsScriptWork}
 use Rattle.prefsql_session.specs.Stage.{Stage, untold, barred, unaccepted, missing, faulty, ready}
 use Rattle.prefsql_session.specs.declared.command.Task.{Task}
-use Rattle.prefsql_session.specs.declared.fault.Fault.{Fault}
-use Rattle.prefsql_session.specs.declared.fault.Fault.TheVariants.{Table, Script}
+use Rattle.prefsql_session.specs.declared.fault.Fault.TheVariants.{Script}
 use Rattle.prefsql_session.specs.declared.work.Work.{Work}
 
 -- a script ends with its first fault, or with what it asks for

@@ -12,7 +12,7 @@ use Rattle.prefsql_session.specs.Stage.{Stage, ready, unaccepted, MayGive, MayHa
 use Rattle.prefsql_session.specs.Texts.{text_of}
 use Rattle.prefsql_session.specs.declared.command.Command.{Command}
 use Rattle.prefsql_session.specs.declared.command.Task.{Task}
-use Rattle.prefsql_session.specs.declared.fault.Fault.TheVariants.{Table, Script}
+use Rattle.prefsql_session.specs.declared.fault.Fault.TheVariants.{Script}
 use Rattle.prefsql_session.specs.declared.fault.Stop.{Stop}
 use Rattle.prefsql_session.specs.declared.fault.Stop.TheVariants as stop
 use Rattle.prefsql_session.specs.declared.session.Status.{Status}

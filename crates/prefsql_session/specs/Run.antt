@@ -1,12 +1,12 @@
 -- What a run writes, and why it ends as it does, by its course. All of it is this project's own. A course is the set of
 -- the ends that a run may come to, which is one end.
-use Rattle.std.specs.Prelude.{◌≡◌, ◌⊎◌, ◌<◌, ℕ, List, [], ◌∷◌, take, ⊤, Option, None, Some, Result, Ok, Err}
+use Rattle.std.specs.Prelude.{◌≡◌, ◌⊎◌, ℕ, List, [], ◌∷◌, take, ⊤, Option, Some}
 use Rattle.std.specs.Io.KnownBytes.{Appends, Keeps}
 use Rattle.prefsql_io.specs.Counts.{Rose}
 use Rattle.prefsql_io.specs.Streams.{AppendsLess}
 use Rattle.prefsql_session.specs.Faults.{fault_line, usage_line}
 use Rattle.prefsql_session.specs.Opening.{Job, over}
-use Rattle.prefsql_session.specs.Stage.{Stage, untold, barred, unaccepted, missing, faulty, ready, MayGive, MayHaveFault}
+use Rattle.prefsql_session.specs.Stage.{Stage, untold, barred, unaccepted, missing, faulty, ready, MayHaveFault}
 use Rattle.prefsql_session.specs.Texts.{text_of}
 use Rattle.prefsql_session.specs.declared.command.Command.{Command}
 use Rattle.prefsql_session.specs.declared.command.Command.TheVariants.{OnScript}

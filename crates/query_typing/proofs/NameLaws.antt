@@ -10,7 +10,6 @@ use Rattle.std.proofs.lemmas.Bool.Decides.{nat_tests}
 use Rattle.std.proofs.lemmas.List.Quantifiers.{position-Some}
 use Rattle.std.proofs.lemmas.List.Sums.{sum_by-append, sum_by-cons}
 use Rattle.std.proofs.lemmas.List.{length-map, length-take-le, map-append, take_more}
-use Rattle.prefsql_lexer.specs.declared.fault.Spot.{Spot}
 use Rattle.query_meaning.specs.declared.block.Output.{Output}
 use Rattle.query_typing.specs.Outputs.{names_in}
 use Rattle.query_typing.specs.NamePlaces.{name_place, place_by, place_more}

@@ -1,17 +1,14 @@
 -- How many leaves have a quality, with one leaf more, and what that tells.
-use Rattle.std.proofs.Common.{◌≡◌, ℕ, ◌+◌, ◌<◌, Bool, true, false, not, cond, ltb, eqb, ◌&&◌, Option, Some, None, List, [], ◌∷◌, ◌++◌, refl, sym, ap, ◌∙◌, subst, ⊎_elim, arith}
-use Rattle.std.specs.Prelude.{count_by}
+use Rattle.std.proofs.Common.{◌≡◌, ℕ, ◌+◌, ◌<◌, Bool, true, false, not, cond, ltb, eqb, ◌&&◌, Option, Some, None, List, [], ◌∷◌, ◌++◌, sym, ap, ◌∙◌, ⊎_elim, arith}
 use Rattle.std.proofs.lemmas.Bool.{cases_Bool, cond-true, cond-false}
 use Rattle.std.proofs.lemmas.Bool.Decides.{nat_tests}
 use Rattle.prefsql_lexer.specs.declared.fault.Spot.{Spot}
 use Rattle.prefsql_tables.specs.declared.place.ColumnPlace.{ColumnPlace}
 use Rattle.query_typing.specs.Leaves.{has_wanted, is_wanted, stands_on, wanted_count}
 use Rattle.query_typing.specs.Obligations.{earlier, owes, unmet}
-use Rattle.query_typing.specs.Tallies.{same_key, tally, tally_fault, tally_in, tally_more, tally_of, tally_with}
+use Rattle.query_typing.specs.Tallies.{tally, tally_fault, tally_in, tally_more, tally_of, tally_with}
 use Rattle.query_typing.specs.declared.quality.LeafSite.{LeafSite}
 use Rattle.query_typing.specs.declared.quality.Wanted.{Wanted}
-use Rattle.query_typing.specs.declared.quality.Wanted.TheVariants.{Level, Distance, Either}
-use Rattle.query_typing.specs.declared.tally.Tally.{Tally}
 use Rattle.query_typing.specs.declared.tally.Tally.TheVariants.{Nothing, One, Several}
 use Rattle.query_typing.specs.declared.tally.QualityTally.{QualityTally}
 use Rattle.query_typing.specs.Columns.{place_eq}

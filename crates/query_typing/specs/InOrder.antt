@@ -2,7 +2,7 @@
 use Rattle.std.specs.Prelude.{ℕ, ◌≤◌, Bool, false, nat_lt, Option, Some, None, List, [], ◌∷◌, All, map, ⊤}
 use Rattle.std.specs.List.{flat_map}
 use Rattle.prefsql_lexer.specs.declared.fault.Spot.{Spot}
-use Rattle.query_tree.specs.Places.{base_places, set_places}
+use Rattle.query_tree.specs.Places.{base_places}
 use Rattle.query_tree.specs.declared.name.LiteralTree.{LiteralTree}
 use Rattle.query_tree.specs.declared.preference.BaseTree.{BaseTree}
 use Rattle.query_tree.specs.declared.preference.SetTree.{SetTree}

@@ -1,13 +1,13 @@
-use Rattle.std.proofs.Common.{◌≡◌, ◌∙◌, ℕ, List, [], ◌∷◌, map, ap, sym, subst, rules, true, false}
+use Rattle.std.proofs.Common.{◌≡◌, ◌∙◌, [], map, ap, sym, subst, rules, true}
 use Rattle.std.proofs.lemmas.Result.{IfOk-weaker}
 use Rattle.clap.specs.Faults.{fault_of}
 use Rattle.clap.specs.Matches.{found_of}
 use Rattle.clap.specs.Simple.{matches_of}
 use Rattle.clap.specs.Takes.{takes}
 use Rattle.clap.specs.Walk.{rows_of}
-use Rattle.prefsql_session.specs.CommandLine.{accepted, begins_plain, is_plain, operands, stats_among}
+use Rattle.prefsql_session.specs.CommandLine.{accepted, begins_plain, operands}
 use Rattle.prefsql_session.specs.WordsApp.{Reads, words_app}
-use Rattle.prefsql_session.proofs.Meaning.{accepted_reads, not_plain_first, plain_first, reads, refused}
+use Rattle.prefsql_session.proofs.Meaning.{accepted_reads, plain_first, reads, refused}
 use Rattle.prefsql_session.proofs.command_line.meaning_of.Goals as goal
 
 pub returns-in-Ok-Some : goal.returns-in-Ok-Some

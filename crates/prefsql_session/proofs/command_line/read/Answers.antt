@@ -1,8 +1,7 @@
-use Rattle.std.proofs.Common.{◌≡◌, ◌∙◌, ap, map, rules, true}
+use Rattle.std.proofs.Common.{◌≡◌, ◌∙◌, ap, map, rules}
 use Rattle.clap.specs.Takes.{takes}
 use Rattle.clap.specs.Values.{kind_of}
 use Rattle.clap.specs.declared.error.kind.ErrorKind.TheVariants as kind
-use Rattle.prefsql_session.specs.WordsApp.{words_app}
 use Rattle.prefsql_session.proofs.command_line.read.Goals as goal
 
 pub returns-else-eq : goal.returns-else-eq

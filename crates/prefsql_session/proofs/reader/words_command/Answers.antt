@@ -1,8 +1,8 @@
-use Rattle.std.proofs.Common.{◌≡◌, ◌∙◌, rules, ap, ap₂, refl, codes, true}
+use Rattle.std.proofs.Common.{◌≡◌, ◌∙◌, rules, ap, ap₂, codes, true}
 use Rattle.std.proofs.lemmas.Result.{IfOk-weaker}
 use Rattle.clap.specs.Walk.{rule_of}
 use Rattle.clap.specs.Simple.{App, Shape, app_of, app_of_fields, with_rule, on_top, new_app}
-use Rattle.prefsql_session.specs.WordsApp.{command_rule, words_rule, stats_rule, words_app}
+use Rattle.prefsql_session.specs.WordsApp.{command_rule, words_rule, stats_rule}
 use Rattle.prefsql_session.proofs.reader.words_command.Goals as goal
 
 abbrev no_name : App → App

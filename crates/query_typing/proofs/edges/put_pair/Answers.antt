@@ -1,4 +1,4 @@
-use Rattle.std.proofs.Common.{◌≡◌, ◌∙◌, sym, ap}
+use Rattle.std.proofs.Common.{◌∙◌, sym, ap}
 use Rattle.prefsql_values.specs.Value.{value_of}
 use Rattle.query_typing.specs.Pairs.{has_pair}
 use Rattle.query_typing.proofs.PairSteps.{pair_put, pair_there}

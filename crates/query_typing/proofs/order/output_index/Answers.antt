@@ -1,4 +1,4 @@
-use Rattle.std.proofs.Common.{◌≡◌, ◌++◌, ◌∷◌, [], ◌∙◌, sym, ap, subst, take, length, arith}
+use Rattle.std.proofs.Common.{◌++◌, ◌∷◌, [], ◌∙◌, sym, ap, subst, take, arith}
 use Rattle.query_typing.specs.NamePlaces.{IsIndexOf}
 use Rattle.query_typing.specs.Outputs.{names_in}
 use Rattle.query_typing.proofs.NameLaws.{shown_more, shown_total}

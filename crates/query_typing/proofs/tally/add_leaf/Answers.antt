@@ -1,9 +1,9 @@
-use Rattle.std.proofs.Common.{◌≡◌, ◌∙◌, sym, ap, Some}
+use Rattle.std.proofs.Common.{◌∙◌, ap}
 use Rattle.std.specs.HashMap.{get}
 use Rattle.query_typing.specs.Leaves.{has_wanted}
 use Rattle.query_typing.specs.Tallies.{same_key, tally_in, tally_with}
 use Rattle.prefsql_tables.specs.declared.place.ColumnPlace.{ColumnPlace}
-use Rattle.query_typing.proofs.TallyLaws.{leaf_more, none_more}
+use Rattle.query_typing.proofs.TallyLaws.{leaf_more}
 use Rattle.query_typing.proofs.tally.add_leaf.Goals as goal
 
 pub returns : goal.returns

@@ -1,7 +1,6 @@
-use Rattle.std.proofs.Common.{◌≡◌, ◌∙◌, ap}
+use Rattle.std.proofs.Common.{◌≡◌, ◌∙◌}
 use Rattle.query_typing.specs.Leaves.{has_wanted}
 use Rattle.query_typing.specs.Tallies.{tally_in, tally_of, tally_with}
-use Rattle.query_typing.specs.declared.quality.Wanted.{Wanted}
 use Rattle.query_typing.specs.declared.quality.Wanted.TheVariants.{Level, Distance, Either}
 use Rattle.query_typing.proofs.tally.with_leaf.Goals as goal
 

@@ -1,4 +1,4 @@
-use Rattle.std.proofs.Common.{sym, subst, All, inl, inr}
+use Rattle.std.proofs.Common.{sym, subst, inl, inr}
 use Rattle.std.specs.List.{flat_map}
 use Rattle.query_tree.specs.Places.{edge_places, form_places}
 use Rattle.query_typing.specs.InOrder.{AreInOrder, Ascends}
