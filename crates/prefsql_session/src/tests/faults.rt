@@ -60,6 +60,41 @@ fn faults_of_scripts(rt: HostRuntime) -> Result<(), Fail> {
             81,
         ),
         ("SELECT size FROM cars PREFERRING dealer = 'north'", 303, 7),
+        ("SELECT size FROM car", 301, 17),
+        ("SELECT id FROM cars a WHERE cars.id = 1", 303, 28),
+        (
+            "SELECT id FROM cars; SELECT size FROM cars; SELECT id FROM car",
+            303,
+            28,
+        ),
+        ("SELECT id FROM cars WHERE color = 5 AND size = 5", 305, 34),
+        ("SELECT id FROM cars WHERE id IN (1, 'b', 'c')", 305, 36),
+        (
+            "SELECT id FROM cars PREFERRING LOWEST(id) BUT ONLY 'a' = DISTANCE(nowhere)",
+            305,
+            57,
+        ),
+        (
+            "SELECT id FROM cars PREFERRING color EXPLICIT ('a' > 'b', 'b' > 'c', 'c' > 'a', 'd' > 'a')",
+            309,
+            69,
+        ),
+        (
+            "SELECT LEVEL(color) FROM cars PREFERRING color = 'red' AND color <> 5",
+            313,
+            13,
+        ),
+        (
+            "SELECT id FROM cars PREFERRING LOWEST(id) GROUPING dealer, size",
+            303,
+            59,
+        ),
+        ("SELECT id FROM cars ORDER BY 1, 0", 316, 32),
+        (
+            "SELECT id FROM cars PREFERRING id EXPLICIT (1 > 2, 2 > 3, 3 > 4, 4 > 5, 5 > 6, 6 > 7, 7 > 8, 8 > 9, 9 > 10, 10 > 11, 11 > 12, 12 > 13, 13 > 14, 14 > 15, 15 > 16, 17 > 17)",
+            309,
+            162,
+        ),
         (
             "SELECT size FROM cars; SELECT id FROM cars PREFERRING AND",
             201,
