@@ -1,0 +1,4 @@
+pub mod Conjuncts
+pub mod Meaning
+pub mod Tests
+pub mod Valid
