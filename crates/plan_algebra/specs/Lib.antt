@@ -1,4 +1,5 @@
 pub mod Conjuncts
 pub mod Meaning
+pub mod PlanText
 pub mod Tests
 pub mod Valid
