@@ -259,8 +259,9 @@ module _ (writing : Bool) where
 abbrev pub IsWellFormed : SqlQuery → Type 0
 IsWellFormed query = IsTrue (judged_query false query []).well
 
--- well formed, and fit to be written: each column is told by its names, and the text nests at most
--- 256 deep
+-- well formed, and fit to be written: each column is told by its names too, and the text nests at
+-- most 256 deep
 pub record IsValid (query : SqlQuery) : Type 0 where
+  pub formed : IsWellFormed query
   pub told : IsTrue (judged_query true query []).well
   pub nested : nesting query ≤ 256
