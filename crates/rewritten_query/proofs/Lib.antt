@@ -1,0 +1,2 @@
+pub mod ConditionReads
+pub mod RankingReads

@@ -1,0 +1,13 @@
+pub mod Better
+pub mod Candidates
+pub mod Cells
+pub mod Clauses
+pub mod Compared
+pub mod CondPut
+pub mod Duels
+pub mod Graphs
+pub mod Places
+pub mod Ranks
+pub mod Readings
+pub mod Sources
+pub mod Whole
