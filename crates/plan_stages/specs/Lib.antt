@@ -1,0 +1,4 @@
+pub mod Placing
+pub mod Separation
+pub mod Sinking
+pub mod Stages
