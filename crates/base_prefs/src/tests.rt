@@ -1,5 +1,4 @@
 ghost use Rattle.std.specs.Prelude.{◌≡◌, ◌<◌, length, All, IfOk, IsTrue};
-ghost use Rattle.prefsql_values.specs.declared.value.Value.TheVariants.{Num};
 ghost use Rattle.base_prefs.specs.Graph.{ends};
 ghost use Rattle.base_prefs.specs.Kind.{has_level, is_explicit};
 ghost use Rattle.base_prefs.specs.RankedLaws.{IsRanked};
@@ -8,11 +7,10 @@ ghost use Rattle.prefsql_values.specs.Limits.{IsLiteralValue};
 
 use super::*;
 use order_laws::Preference;
-use prefsql_values::{Cell, List, Memory, Steps, Text, Value, not_distinct};
+use prefsql_values::{Cell, List, Memory, Steps, Text, Value};
 use std::alloc::Global;
 use std::cmp::Ordering;
 use std::marker::Brand;
-use std::process::Abort;
 use std::sync::ledger::{Blank, Ledger};
 use std::test::Fail;
 
@@ -24,19 +22,6 @@ fn set(alloc: Global, words: &[&str]) -> Result<ValueSet, Memory>
     let mut values = List::new(alloc);
     for word in words {
         values.push(Value::Str(Text::of(alloc, word)?))?;
-    }
-    Ok(ValueSet { values })
-}
-
-// The number, written so often, and at least once.
-fn repeated(alloc: Global, number: i64, count: u32) -> Result<ValueSet, Memory>
-    requires { IsLiteralValue (Num number) }
-    ensures { IfOk result IsGivenSet }
-{
-    let mut values = List::new(alloc);
-    values.push(Value::Num(i128::from(number)))?;
-    for _ in 1..count {
-        values.push(Value::Num(i128::from(number)))?;
     }
     Ok(ValueSet { values })
 }
@@ -53,22 +38,7 @@ fn singles(alloc: Global, words: &[&str]) -> Result<List<ValueSet>, Memory>
     Ok(sets)
 }
 
-// The preference for layers of one text each, OTHERS between those before and those after.
-fn layers(alloc: Global, before: &[&str], after: &[&str]) -> Result<BasePref, BaseFault>
-    requires { 0 < length before.now }
-    ensures { IfOk result (λ pref. IsTrue (has_level pref)) }
-{
-    layered(alloc, singles(alloc, before)?, singles(alloc, after)?)
-}
-
-// The preference for the graph of these edges, from the upper text to the lower one.
-fn graph(alloc: Global, pairs: &[(&str, &str)]) -> Result<BasePref, BaseFault>
-    requires { 0 < length pairs.now }
-    ensures { IfOk result (λ pref. IsTrue (has_level pref)) }
-{
-    explicit(alloc, edges(alloc, pairs)?)
-}
-
+// The edges from the upper text to the lower one.
 fn edges(alloc: Global, pairs: &[(&str, &str)]) -> Result<List<Edge>, Memory>
     ensures count { IfOk result (λ edges. length edges ≡ length pairs.now) }
     ensures literal { IfOk result (λ edges. All IsLiteralValue (ends edges)) }
@@ -80,6 +50,69 @@ fn edges(alloc: Global, pairs: &[(&str, &str)]) -> Result<List<Edge>, Memory>
         edges.push(Edge { upper, lower })?;
     }
     Ok(edges)
+}
+
+// The preferences by levels that are tried, over the texts a, b, c and d.
+#[derive(Clone, Copy)]
+enum Tried {
+    Pos,
+    Neg,
+    PosPos,
+    PosNeg,
+    Middle,
+    Last,
+    Chain,
+}
+
+fn made(alloc: Global, tried: Tried) -> Result<BasePref, BaseFault>
+    ensures { IfOk result (λ pref. IsTrue (has_level pref)) }
+{
+    match tried {
+        Tried::Pos => pos(alloc, set(alloc, &["a", "b", "a"])?),
+        Tried::Neg => neg(alloc, set(alloc, &["a", "b"])?),
+        Tried::PosPos => pos_pos(alloc, set(alloc, &["a"])?, set(alloc, &["b", "b"])?),
+        Tried::PosNeg => pos_neg(alloc, set(alloc, &["a"])?, set(alloc, &["b"])?),
+        Tried::Middle => layered(alloc, singles(alloc, &["a"])?, singles(alloc, &["b"])?),
+        Tried::Last => layered(alloc, singles(alloc, &["a", "b"])?, List::new(alloc)),
+        Tried::Chain => explicit(alloc, edges(alloc, &[("a", "b"), ("a", "c"), ("b", "c")])?),
+    }
+}
+
+// The levels of a, b, c and d, and whether keys alone rank.
+fn levels(pref: &BasePref) -> ([Option<u32>; 4], bool)
+    requires { IsTrue (has_level pref.now) }
+{
+    let levels = [
+        pref.level(Cell::Str("a")),
+        pref.level(Cell::Str("b")),
+        pref.level(Cell::Str("c")),
+        pref.level(Cell::Str("d")),
+    ];
+    (levels, pref.is_weak())
+}
+
+// The same, by a copy.
+fn copied_levels(alloc: Global, tried: Tried) -> Result<([Option<u32>; 4], bool), BaseFault> {
+    let pref = made(alloc, tried)?;
+    let copy = pref.copy(alloc)?;
+    Ok(levels(&copy))
+}
+
+#[test]
+fn levels_of_texts(rt: HostRuntime) -> Result<(), Fail> {
+    for (tried, levels, weak) in [
+        (Tried::Pos, [1, 1, 2, 2], true),
+        (Tried::Neg, [2, 2, 1, 1], true),
+        (Tried::PosPos, [1, 2, 3, 3], true),
+        (Tried::PosNeg, [1, 3, 2, 2], true),
+        (Tried::Middle, [1, 3, 2, 2], true),
+        (Tried::Last, [1, 2, 3, 3], true),
+        (Tried::Chain, [1, 2, 3, 4], false),
+    ] {
+        let wanted = (levels.map(Some), weak);
+        assert_eq!(rt; copied_levels(rt.alloc(), tried)?, wanted);
+    }
+    Ok(())
 }
 
 // Whether the graph's value at the one place is above that at the other.
@@ -96,163 +129,39 @@ fn above(pref: &BasePref, upper: usize, lower: usize) -> Option<bool> {
     }
 }
 
-// A text has the level beside it, also by a copy, and no distance.
-fn levels(
-    rt: &impl Abort,
-    alloc: Global,
-    pref: BasePref,
-    weak: bool,
-    wanted: &[(&str, u32)],
-) -> Result<(), Memory>
-    requires { IsTrue (has_level pref) }
-{
-    let copy = pref.copy(alloc)?;
-    assert_eq!(rt; pref.is_weak(), weak);
-    for (word, level) in wanted {
-        let cell = Cell::Str(word);
-        assert_eq!(rt; pref.level(cell), Some(*level), "{word}");
-        assert_eq!(rt; copy.level(cell), Some(*level), "{word}");
-        assert_eq!(rt; pref.distance(cell), None, "{word}");
-    }
-    Ok(())
-}
-
-// A number has the distance beside it, also by a copy, and no level.
-fn distances(
-    rt: &impl Abort,
-    alloc: Global,
-    pref: BasePref,
-    wanted: &[(i64, Option<i128>)],
-) -> Result<(), Memory> {
-    let copy = pref.copy(alloc)?;
-    assert!(rt; pref.is_weak());
-    for (number, distance) in wanted {
-        let cell = Cell::Num(i128::from(*number));
-        assert_eq!(rt; pref.distance(cell), *distance, "{number}");
-        assert_eq!(rt; copy.distance(cell), *distance, "{number}");
-        assert_eq!(rt; pref.level(cell), None, "{number}");
-    }
-    Ok(())
-}
-
-// The graph's first three values: which is above which.
-fn paths(rt: &impl Abort, pref: BasePref) {
-    for (upper, lower, is_above) in [
-        (0, 1, true),
-        (0, 2, true),
-        (1, 2, true),
-        (0, 0, false),
-        (1, 0, false),
-        (2, 0, false),
-    ] {
-        assert_eq!(rt;
-            above(&pref, upper, lower),
-            Some(is_above),
-            "{upper} {lower}"
-        );
-    }
-}
-
-#[test]
-fn levels_by_the_longest_path(rt: HostRuntime) -> Result<(), Fail> {
-    let alloc = rt.alloc();
-    let pref = graph(alloc, &[("a", "b"), ("a", "c"), ("b", "c")])?;
-    levels(
-        &rt,
-        alloc,
-        pref,
-        false,
-        &[("a", 1), ("b", 2), ("c", 3), ("d", 4)],
-    )?;
-    Ok(())
-}
-
 #[test]
 fn paths_join(rt: HostRuntime) -> Result<(), Fail> {
-    let alloc = rt.alloc();
-    paths(&rt, graph(alloc, &[("a", "b"), ("a", "c"), ("b", "c")])?);
-    paths(&rt, graph(alloc, &[("a", "b"), ("b", "c")])?);
-    let itself = graph(alloc, &[("a", "a")]);
-    assert!(rt; matches!(&itself, Err(BaseFault::Cycle)));
-    let round = graph(alloc, &[("a", "b"), ("c", "a"), ("b", "c")]);
-    assert!(rt; matches!(&round, Err(BaseFault::Cycle)));
-    Ok(())
-}
-
-#[test]
-fn one_or_two_sets(rt: HostRuntime) -> Result<(), Fail> {
-    let alloc = rt.alloc();
-    let good = pos(alloc, set(alloc, &["a", "b", "a"])?)?;
-    levels(&rt, alloc, good, true, &[("a", 1), ("b", 1), ("x", 2)])?;
-    let bad = neg(alloc, set(alloc, &["a", "b"])?)?;
-    levels(&rt, alloc, bad, true, &[("a", 2), ("b", 2), ("x", 1)])?;
-    let two = pos_pos(alloc, set(alloc, &["a"])?, set(alloc, &["b", "b"])?)?;
-    levels(&rt, alloc, two, true, &[("a", 1), ("b", 2), ("x", 3)])?;
-    let both = pos_neg(alloc, set(alloc, &["a"])?, set(alloc, &["b"])?)?;
-    levels(&rt, alloc, both, true, &[("a", 1), ("b", 3), ("x", 2)])?;
-    Ok(())
-}
-
-#[test]
-fn others_are_a_layer(rt: HostRuntime) -> Result<(), Fail> {
-    let alloc = rt.alloc();
-    let middle = layers(alloc, &["a"], &["b"])?;
-    levels(&rt, alloc, middle, true, &[("a", 1), ("x", 2), ("b", 3)])?;
-    let last = layers(alloc, &["a", "b"], &[])?;
-    levels(&rt, alloc, last, true, &[("a", 1), ("b", 2), ("x", 3)])?;
-    Ok(())
-}
-
-#[test]
-fn arguments_that_are_refused(rt: HostRuntime) -> Result<(), Fail> {
-    let alloc = rt.alloc();
-    let most = pos(alloc, repeated(alloc, 1, 256)?)?;
-    assert!(rt;
-        matches!(most.view(), BaseView::Pos([one]) if not_distinct(one.cell(), Cell::Num(1)))
-    );
-    let more = pos(alloc, repeated(alloc, 1, 257)?);
-    assert!(rt; matches!(&more, Err(BaseFault::TooManyValues)));
-    let more = neg(alloc, repeated(alloc, 1, 257)?);
-    assert!(rt; matches!(&more, Err(BaseFault::TooManyValues)));
-    let more = pos_neg(alloc, repeated(alloc, 1, 256)?, set(alloc, &["a"])?);
-    assert!(rt; matches!(&more, Err(BaseFault::TooManyValues)));
-    let shared = pos_pos(alloc, set(alloc, &["red"])?, set(alloc, &["red"])?);
-    assert!(rt; matches!(&shared, Err(BaseFault::Overlap)));
-    let shared = pos_neg(alloc, set(alloc, &["blue", "red"])?, set(alloc, &["red"])?);
-    assert!(rt; matches!(&shared, Err(BaseFault::Overlap)));
-    let shared = layers(alloc, &["red", "blue"], &["grey", "red"]);
-    assert!(rt; matches!(&shared, Err(BaseFault::Overlap)));
-    assert!(rt; matches!(&between(5, 4), Err(BaseFault::LowAboveUp)));
-    assert!(rt; matches!(between(4, 4)?.view(), BaseView::Between(4, 4)));
+    let pref = explicit(rt.alloc(), edges(rt.alloc(), &[("a", "b"), ("b", "c")])?)?;
+    let above = [above(&pref, 0, 2), above(&pref, 2, 0), above(&pref, 0, 3)];
+    assert_eq!(rt; above, [Some(true), Some(false), None]);
     Ok(())
 }
 
 #[test]
 fn distances_from_the_bounds(rt: HostRuntime) -> Result<(), Fail> {
-    let alloc = rt.alloc();
     let inside = between(10, 20)?;
-    distances(
-        &rt,
-        alloc,
-        inside,
-        &[(5, Some(5)), (15, Some(0)), (23, Some(3))],
-    )?;
     let near = around(999_999_999_999_999_999);
-    distances(
-        &rt,
-        alloc,
-        near,
-        &[(-999_999_999_999_999_999, Some(1_999_999_999_999_999_998))],
-    )?;
-    distances(&rt, alloc, lowest(), &[(7, None)])?;
-    distances(&rt, alloc, highest(), &[(7, None)])?;
+    let distances = [
+        inside.distance(Cell::Num(5)),
+        inside.distance(Cell::Num(15)),
+        inside.distance(Cell::Num(23)),
+        near.distance(Cell::Num(-999_999_999_999_999_999)),
+        lowest().distance(Cell::Num(7)),
+    ];
+    let wanted = [
+        Some(5),
+        Some(0),
+        Some(3),
+        Some(1_999_999_999_999_999_998),
+        None,
+    ];
+    assert_eq!(rt; distances, wanted);
     Ok(())
 }
 
 // Whether the first value is better, whether the second is, whether they are the same, and how their keys compare.
 fn ranked<L: Ledger>(
-    base: &BasePref,
-    trivial: bool,
+    pref: Ranked<'_>,
     first: &Value,
     second: &Value,
     blank: Blank,
@@ -260,10 +169,9 @@ fn ranked<L: Ledger>(
     requires name { blank.name ≡ L.name }
     requires parts { blank.parts ≡ L.parts }
     requires backed { 0 < L.parts }
-    requires first_valid { IsRanked base.now trivial first.now }
-    requires second_valid { IsRanked base.now trivial second.now }
+    requires first_valid { IsRanked pref.base.now pref.trivial first.now }
+    requires second_valid { IsRanked pref.base.now pref.trivial second.now }
 {
-    let pref = Ranked { base, trivial };
     let mut steps = Steps::<L>::new(blank);
     (
         pref.better(first, second, &mut steps),
@@ -276,58 +184,61 @@ fn ranked<L: Ledger>(
 // The same of two texts.
 fn ranked_texts(
     alloc: Global,
-    base: &BasePref,
-    trivial: bool,
+    pref: Ranked<'_>,
     first: &str,
     second: &str,
 ) -> Result<(bool, bool, bool, Ordering), Memory>
-    requires ranks { IsTrue (has_level base.now) }
-    requires trivial { IsTrue (is_explicit base.now) → IsTrue trivial }
+    requires ranks { IsTrue (has_level pref.base.now) }
+    requires trivial { IsTrue (is_explicit pref.base.now) → IsTrue pref.trivial }
 {
     let first = Value::Str(Text::of(alloc, first)?);
     let second = Value::Str(Text::of(alloc, second)?);
-    let ranks = ranked::<Brand>(base, trivial, &first, &second, Blank::new(1));
+    let ranks = ranked::<Brand>(pref, &first, &second, Blank::new(1));
     Ok(ranks)
 }
 
+// The same of two texts under one that is tried, with trivial substitutable values.
+fn ranked_by(
+    alloc: Global,
+    tried: Tried,
+    first: &str,
+    second: &str,
+) -> Result<(bool, bool, bool, Ordering), BaseFault> {
+    let base = made(alloc, tried)?;
+    let pref = Ranked {
+        base: &base,
+        trivial: true,
+    };
+    Ok(ranked_texts(alloc, pref, first, second)?)
+}
+
 #[test]
-fn paths_rank_values(rt: HostRuntime) -> Result<(), Fail> {
-    let alloc = rt.alloc();
-    let base = graph(alloc, &[("a", "b"), ("b", "c"), ("d", "e")])?;
-    for (first, second, wanted) in [
-        ("a", "c", (true, false, false, Ordering::Less)),
-        ("a", "e", (false, false, false, Ordering::Less)),
-        ("a", "d", (false, false, false, Ordering::Equal)),
-        ("x", "c", (false, true, false, Ordering::Greater)),
-        ("x", "x", (false, false, true, Ordering::Equal)),
+fn texts_are_ranked(rt: HostRuntime) -> Result<(), Fail> {
+    for (tried, first, second, wanted) in [
+        (Tried::Chain, "a", "c", (true, false, false, Ordering::Less)),
+        (
+            Tried::Chain,
+            "x",
+            "c",
+            (false, true, false, Ordering::Greater),
+        ),
+        (
+            Tried::Chain,
+            "x",
+            "x",
+            (false, false, true, Ordering::Equal),
+        ),
+        (Tried::Pos, "c", "d", (false, false, false, Ordering::Equal)),
     ] {
-        let ranks = ranked_texts(alloc, &base, true, first, second)?;
-        assert_eq!(rt; ranks, wanted, "{first} {second}");
+        assert_eq!(rt; ranked_by(rt.alloc(), tried, first, second)?, wanted);
     }
     Ok(())
 }
 
 #[test]
-fn equal_keys_are_the_same(rt: HostRuntime) -> Result<(), Fail> {
-    let alloc = rt.alloc();
-    let red = pos(alloc, set(alloc, &["red"])?)?;
-    for (trivial, same) in [(false, true), (true, false)] {
-        let ranks = ranked_texts(alloc, &red, trivial, "blue", "grey")?;
-        assert_eq!(rt; ranks, (false, false, same, Ordering::Equal), "{same}");
-    }
-    Ok(())
-}
-
-#[test]
-fn lowest_is_smaller(rt: HostRuntime) {
+fn numbers_are_ranked(rt: HostRuntime) {
     let (three, seven) = (Value::Num(3), Value::Num(7));
-    let ranks = ranked::<Brand>(&lowest(), false, &three, &seven, Blank::new(1));
-    assert_eq!(rt; ranks, (true, false, false, Ordering::Less));
-}
-
-#[test]
-fn highest_is_greater(rt: HostRuntime) {
-    let (three, seven) = (Value::Num(3), Value::Num(7));
-    let ranks = ranked::<Brand>(&highest(), false, &three, &seven, Blank::new(1));
+    let (base, trivial) = (&highest(), false);
+    let ranks = ranked::<Brand>(Ranked { base, trivial }, &three, &seven, Blank::new(1));
     assert_eq!(rt; ranks, (false, true, false, Ordering::Greater));
 }
