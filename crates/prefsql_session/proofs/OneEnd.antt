@@ -9,7 +9,7 @@ use Rattle.prefsql_tables.specs.Table.{Tables}
 use Rattle.prefsql_session.specs.declared.command.Task.{Task}
 use Rattle.prefsql_session.specs.declared.command.Task.TheVariants.{Answer}
 use Rattle.query_grammar.proofs.Accepted.{one_list}
-use Rattle.query_grammar.specs.Place.{place_of}
+use Rattle.token_forms.specs.Place.{place_of}
 use Rattle.query_grammar.specs.Scripts.{IsCode, IsFault, IsScript, IsScriptFront}
 use Rattle.query_meaning.specs.declared.block.Block.{Block}
 use Rattle.query_tree.specs.declared.query.QueryTree.{QueryTree}

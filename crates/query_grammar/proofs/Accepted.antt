@@ -14,8 +14,8 @@ use Rattle.grammar_forms.proofs.Equal.{Equal, Equal-many, Equal-option}
 use Rattle.prefsql_lexer.specs.Bounds.{NestWithin}
 use Rattle.prefsql_lexer.specs.declared.token.Token.{Token}
 use Rattle.query_tree.specs.declared.query.QueryTree.{QueryTree}
-use Rattle.query_grammar.specs.Classes.{class}
-use Rattle.query_grammar.specs.Forms.{Grammar, Rule, condition_rule, preference_rule}
+use Rattle.token_forms.specs.Classes.{class}
+use Rattle.query_grammar.specs.Rules.{Grammar, Rule, condition_rule, preference_rule}
 use Rattle.query_grammar.specs.Statements.{statement, ended, script, production}
 use Rattle.query_grammar.specs.ReadStatements.{Counted, counted, statement_form}
 use Rattle.query_grammar.specs.Outcome.{rule_starts, rule_continues, right_side, outcome}
@@ -23,7 +23,9 @@ use Rattle.query_grammar.specs.Scripts.{IsWhole, IsFront, IsScript, IsScriptFron
 use Rattle.query_grammar.proofs.Predictive.{agrees, predictive-counted, next}
 use Rattle.query_grammar.proofs.Written.{Same-cond, Same-pref, Same-statement, Same-ended}
 use Rattle.query_grammar.proofs.Counted.{ended_form, shape_of, counted_of, front_shape, front_counted}
-use Rattle.query_grammar.proofs.Depth.{StaysWithin, rises, falls, NestWithin-stays, production_keeps, script_keeps, many_keeps, ended_keeps, last_keeps}
+use Rattle.token_forms.proofs.Depth.{StaysWithin, NestWithin-stays}
+use Rattle.query_grammar.proofs.Depth.{production_keeps, script_keeps, many_keeps, ended_keeps, last_keeps}
+use Rattle.token_forms.proofs.Depth.{rises, falls}
 
 -- what is a whole one as it is read
 abbrev pub ReadWhole : ℕ → {A : Type 0} → Grammar A → List Token → A → Type 0
@@ -132,8 +134,8 @@ one_list ts some other w v =
 
 -- ---- where the depth of the tokens stays within the limit
 
-abbrev stays : (ts : List Token) → NestWithin 64 0 ts → StaysWithin 64 0 ts
-stays ts s = NestWithin-stays 64 0 ts s
+abbrev stays : (ts : List Token) → NestWithin 64 0 ts → StaysWithin Rule 64 0 ts
+stays ts s = NestWithin-stays Rule 64 0 ts s
 
 pub script_read : (ts : List Token) (trees : List QueryTree) → NestWithin 64 0 ts → IsScript ts trees → (full : Bool) × ReadWhole 64 (counted 64) ts (trees, full)
 script_read ts trees s w = read_of 64 64 ts trees (IsWhole-limited Token Rule class rises falls production production_keeps w.1.0 64 script script_keeps.0 ts trees (stays ts s) w.1.1) w.0
@@ -143,13 +145,13 @@ script_written ts c w = let s = written_of 64 64 ts c w in (s.0, (64, s.1))
 
 -- statements with their semicolons, and the depth after them
 many_limited : (n : ℕ) (xs ys : List Token) (trees : List QueryTree) → NestWithin 64 0 (xs ++ ys) → IsWhole n (many ended) xs trees →
-    Several (λ us v. ReadWhole 64 (ended_form (R 64) (S 64) (none 64)) us v) xs trees × StaysWithin 64 0 ys
+    Several (λ us v. ReadWhole 64 (ended_form (R 64) (S 64) (none 64)) us v) xs trees × StaysWithin Rule 64 0 ys
 many_limited n xs ys trees s w =
     let t = stays (xs ++ ys) s in
     let first = stays_first Token Rule class rises falls 64 0 xs ys t in
     let limited = IsWhole-limited Token Rule class rises falls production production_keeps n 64 (many ended) many_keeps.0 xs trees first w in
     let flat = IsWhole-level Token Rule class rises falls production production_keeps n 0 (many ended) many_keeps.0 many_keeps.1 xs trees w in
-    ((many_same 64).there.whole xs trees (to_read 64 (many ended) xs trees limited), subst (λ z. StaysWithin 64 z ys) flat (stays_rest Token Rule class rises falls 64 0 xs ys t))
+    ((many_same 64).there.whole xs trees (to_read 64 (many ended) xs trees limited), subst (λ z. StaysWithin Rule 64 z ys) flat (stays_rest Token Rule class rises falls 64 0 xs ys t))
 
 pub full_read : (ts : List Token) (n : ℕ) (trees : List QueryTree) → NestWithin 64 0 ts → IsWhole n (many ended) ts trees → Several (λ us v. ReadWhole 64 (ended_form (R 64) (S 64) (none 64)) us v) ts trees
 full_read ts n trees s w = (many_limited n ts [] trees (subst (λ z. NestWithin 64 0 z) (sym (append-nil ts)) s) w).0

@@ -6,8 +6,9 @@ use Rattle.grammar_forms.proofs.Fronts.{front_none}
 use Rattle.prefsql_lexer.specs.declared.token.Token.{Token}
 use Rattle.prefsql_lexer.specs.declared.token.Symbol.TheVariants.{Semicolon}
 use Rattle.query_tree.specs.declared.query.QueryTree.{QueryTree}
-use Rattle.query_grammar.specs.Classes.{class}
-use Rattle.query_grammar.specs.Forms.{Grammar, Rule, symbol_only, ◌⨟◌, ◌⨟>◌, ◌<⨟◌}
+use Rattle.token_forms.specs.Classes.{class}
+use Rattle.query_grammar.specs.Rules.{Grammar, Rule}
+use Rattle.token_forms.specs.Forms.{symbol_only, ◌⨟◌, ◌⨟>◌, ◌<⨟◌}
 use Rattle.query_grammar.specs.ReadStatements.{Counted, counted, counted_trees, statement_form}
 use Rattle.query_grammar.specs.Statements.{with_last}
 

@@ -12,15 +12,16 @@ use Rattle.prefsql_lexer.specs.declared.token.Token.{Token}
 use Rattle.prefsql_lexer.specs.declared.token.Symbol.TheVariants.{Semicolon}
 use Rattle.prefsql_lexer.specs.declared.fault.Spot.{Spot}
 use Rattle.query_tree.specs.declared.query.QueryTree.{QueryTree}
-use Rattle.query_grammar.specs.Classes.{class}
-use Rattle.query_grammar.specs.Forms.{Rule, symbol_only, ◌<⨟◌, ◌⨟◌, ◌⨟>◌}
+use Rattle.token_forms.specs.Classes.{class}
+use Rattle.query_grammar.specs.Rules.{Rule}
+use Rattle.token_forms.specs.Forms.{symbol_only, ◌<⨟◌, ◌⨟◌, ◌⨟>◌}
 use Rattle.query_grammar.specs.ReadStatements.{Counted, counted, statement_form, counted_trees}
 use Rattle.query_grammar.specs.Outcome.{rule_starts, rule_continues, right_side, outcome}
-use Rattle.query_grammar.specs.Place.{SaysCode, place_of}
+use Rattle.token_forms.specs.Place.{SaysCode, place_of}
 use Rattle.query_grammar.specs.Scripts.{IsScript, IsScriptFront, IsFull, IsFault, IsCode}
 use Rattle.query_grammar.proofs.Predictive.{next, agrees, predictive-counted}
 use Rattle.query_grammar.proofs.Accepted.{ReadWhole, ReadFront, script_read, script_written, full_read, full_written, front_read, front_written}
-use Rattle.query_grammar.proofs.Depth.{NestWithin-first}
+use Rattle.token_forms.proofs.Depth.{NestWithin-first}
 
 abbrev Ended : List Token → QueryTree → Type 0
 Ended xs v = ReadWhole 64 (statement_form <⨟ symbol_only Semicolon) xs v

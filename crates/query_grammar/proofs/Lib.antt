@@ -1,4 +1,3 @@
-pub mod Classes
 pub mod Predictive
 pub mod Written
 pub mod Counted

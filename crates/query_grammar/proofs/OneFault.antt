@@ -8,10 +8,10 @@ use Rattle.prefsql_lexer.specs.declared.fault.Spot.{Spot}
 use Rattle.prefsql_lexer.specs.declared.token.Keyword.TheVariants.{Select}
 use Rattle.prefsql_lexer.specs.declared.token.Token.{Token}
 use Rattle.query_tree.specs.declared.query.QueryTree.{QueryTree}
-use Rattle.query_grammar.specs.Classes.{class, word_class}
+use Rattle.token_forms.specs.Classes.{class, word_class}
 use Rattle.query_grammar.specs.ReadStatements.{Counted, counted}
 use Rattle.query_grammar.specs.Outcome.{outcome}
-use Rattle.query_grammar.specs.Place.{SaysCode, place_of}
+use Rattle.token_forms.specs.Place.{SaysCode, place_of}
 use Rattle.query_grammar.specs.Scripts.{IsScript, IsScriptFront, IsFault, IsCode}
 use Rattle.query_grammar.proofs.Faults.{script_found, fault_inside, fault_behind}
 

@@ -4,16 +4,18 @@ use Rattle.grammar_forms.specs.Reading.{starts, continues, is_predictive}
 use Rattle.grammar_forms.proofs.Predictive.{AgreesAt}
 use Rattle.prefsql_lexer.specs.declared.token.Token.{Token}
 use Rattle.prefsql_lexer.specs.declared.token.Keyword.TheVariants.{Others}
-use Rattle.query_grammar.specs.Classes.{class, word_class}
-use Rattle.query_grammar.specs.Forms.{Grammar, Rule, condition_rule, preference_rule}
-use Rattle.query_grammar.specs.Columns.{column, optional_sign, number_form, literal, literals, op}
+use Rattle.token_forms.specs.Classes.{class, word_class}
+use Rattle.query_grammar.specs.Rules.{Grammar, Rule, condition_rule, preference_rule}
+use Rattle.token_forms.specs.Columns.{column, optional_sign, number_form, literal, literals, op}
 use Rattle.query_grammar.specs.Sets.{set}
-use Rattle.query_grammar.specs.Scalars.{level, distance, plain_scalar, scalar, negation, between, scalars, member, null_test, comparison}
+use Rattle.query_grammar.specs.Scalars.{level, distance, plain_scalar, scalar, between, scalars, member, null_test, comparison}
+use Rattle.token_forms.specs.Phrases.{negation}
 use Rattle.query_grammar.specs.ReadConditions.{negatable, rest_form, plain_test, test_form, negated, conjuncts, conjunction, disjuncts, condition}
 use Rattle.query_grammar.specs.Sets.{mark, edge, sets, edges}
 use Rattle.query_grammar.specs.ReadPreferences.{good_set, bad_set, otherwise, good_base, between_base, others, more_layers, sets_and_others, layers_form, other_form, graph_form, column_base, lowest, highest, any_base, primary, primaries, pareto, cascade, preference}
-use Rattle.query_grammar.specs.Items.{alias, value, item, items, list, from, from_items, groups, ordering, distinctness}
-use Rattle.query_grammar.specs.Columns.{direction, order, orders, columns}
+use Rattle.token_forms.specs.Phrases.{alias, from, ordering, distinctness}
+use Rattle.query_grammar.specs.Items.{value, item, items, list, from_items, groups}
+use Rattle.token_forms.specs.Columns.{direction, order, orders, columns}
 use Rattle.query_grammar.specs.ReadStatements.{filter, only, prefer_form, statement_form, counted}
 use Rattle.query_grammar.specs.Outcome.{rule_starts, rule_continues, right_side}
 

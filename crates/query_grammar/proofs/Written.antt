@@ -8,23 +8,26 @@ use Rattle.prefsql_lexer.specs.declared.token.Symbol.TheVariants as symbol
 use Rattle.query_tree.specs.declared.condition.CondTree.{CondTree}
 use Rattle.query_tree.specs.declared.condition.CondTree.TheVariants as cond_tree
 use Rattle.query_tree.specs.declared.preference.PrefTree.TheVariants as pref_tree
-use Rattle.query_grammar.specs.Classes.{class}
-use Rattle.query_grammar.specs.Forms.{Grammar, Rule, condition_rule, preference_rule, ◌⨟◌, ◌⨟>◌, ◌<⨟◌, word_only, symbol_only, separated, comma, in_parens, chain}
-use Rattle.query_grammar.specs.Columns.{column}
-use Rattle.query_grammar.specs.Scalars.{scalar, comparison, between, member, null_test, negation, negated_rest, test_tree, negated_tree}
+use Rattle.token_forms.specs.Classes.{class}
+use Rattle.query_grammar.specs.Rules.{Grammar, Rule, condition_rule, preference_rule}
+use Rattle.token_forms.specs.Forms.{◌⨟◌, ◌⨟>◌, ◌<⨟◌, word_only, symbol_only, separated, comma, in_parens, chain}
+use Rattle.token_forms.specs.Columns.{column}
+use Rattle.query_grammar.specs.Scalars.{scalar, comparison, between, member, null_test, negated_rest, test_tree, negated_tree}
+use Rattle.token_forms.specs.Phrases.{negation}
 use Rattle.query_tree.specs.declared.name.NameTree.{NameTree}
 use Rattle.query_tree.specs.declared.preference.SetTree.{SetTree}
 use Rattle.query_tree.specs.declared.preference.EdgeTree.{EdgeTree}
 use Rattle.query_tree.specs.declared.preference.BaseForm.{BaseForm}
 use Rattle.query_tree.specs.declared.preference.BaseForm.TheVariants as base_form
 use Rattle.query_tree.specs.declared.preference.BaseTree.{BaseTree}
-use Rattle.query_grammar.specs.Forms.{word_at}
-use Rattle.query_grammar.specs.Columns.{literal}
+use Rattle.token_forms.specs.Forms.{word_at}
+use Rattle.token_forms.specs.Columns.{literal}
 use Rattle.query_grammar.specs.Sets.{single, set, sets, edges, mark}
 use Rattle.query_grammar.specs.Preferences.{good, bad, layers, layers_tree, Unmarked, extremum, else_good, else_bad, good_tree, bad_tree, around_tree, between_tree, layered_tree, other, explicit_tree, graph, marked, base, prim, par, pref}
 use Rattle.query_grammar.specs.ReadPreferences as read
 use Rattle.query_grammar.specs.ReadPreferences.{good_set, bad_set, second_good, second_bad, second_form, otherwise, good_form, good_base, between_form, between_base, others, more_layers, with_first, sets_and_others, layers_from_sets, layers_from_others, layers_form, other_form, other_tree, graph_tree, graph_form, column_base, extremum_tree, lowest, highest, any_base, primary, primaries, pareto, cascade, preference}
-use Rattle.query_grammar.specs.Items.{list, from_items, distinctness, groups, ordering}
+use Rattle.query_grammar.specs.Items.{list, from_items, groups}
+use Rattle.token_forms.specs.Phrases.{distinctness, ordering}
 use Rattle.query_grammar.specs.Trees.{query_tree}
 use Rattle.query_grammar.specs.ReadStatements.{filter, only, prefer_form, statement_form}
 use Rattle.query_grammar.specs.Statements.{prefer, statement, ended}

@@ -5,9 +5,11 @@ use Rattle.grammar_forms.specs.Form.{rule}
 use Rattle.prefsql_lexer.specs.declared.token.Keyword.TheVariants as word
 use Rattle.query_tree.specs.declared.condition.CondTree.{CondTree}
 use Rattle.query_tree.specs.declared.condition.CondTree.TheVariants as cond_tree
-use Rattle.query_grammar.specs.Forms.{Grammar, condition_rule, ◌⨟◌, ◌⨟>◌, ◌<$>◌, ◌∣◌, word_only, separated, in_parens, chain}
-use Rattle.query_grammar.specs.Columns.{column}
-use Rattle.query_grammar.specs.Scalars.{Rest, scalar, comparison, between, member, null_test, negation, negated_rest, test_tree, negated_tree}
+use Rattle.query_grammar.specs.Rules.{Grammar, condition_rule}
+use Rattle.token_forms.specs.Forms.{◌⨟◌, ◌⨟>◌, ◌<$>◌, ◌∣◌, word_only, separated, in_parens, chain}
+use Rattle.token_forms.specs.Columns.{column}
+use Rattle.query_grammar.specs.Scalars.{Rest, scalar, comparison, between, member, null_test, negated_rest, test_tree, negated_tree}
+use Rattle.token_forms.specs.Phrases.{negation}
 
 -- rest := op scalar | [NOT] BETWEEN scalar AND scalar | [NOT] IN "(" scalar { "," scalar } ")" | IS [NOT] NULL
 unfoldable pub rest : Bool → Grammar Rest

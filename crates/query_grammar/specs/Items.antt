@@ -1,5 +1,5 @@
 -- The parts of a statement in which nothing nests: this project's own profile of SQL-92 (ISO/IEC 9075:1992).
-use Rattle.std.specs.Prelude.{Bool, List, Option, Some, None}
+use Rattle.std.specs.Prelude.{List, Option}
 use Rattle.grammar_forms.specs.Form.{option}
 use Rattle.prefsql_lexer.specs.declared.token.Keyword.TheVariants as word
 use Rattle.prefsql_lexer.specs.declared.token.Symbol.TheVariants as symbol
@@ -10,14 +10,11 @@ use Rattle.query_tree.specs.declared.query.ItemTree.{ItemTree}
 use Rattle.query_tree.specs.declared.query.SelectTree.{SelectTree}
 use Rattle.query_tree.specs.declared.query.SelectTree.TheVariants as select_tree
 use Rattle.query_tree.specs.declared.query.FromTree.{FromTree}
-use Rattle.query_tree.specs.declared.query.OrderTree.{OrderTree}
-use Rattle.query_grammar.specs.Forms.{Grammar, ◌⨟◌, ◌⨟>◌, ◌<$>◌, ◌∣◌, Named, name, symbol_only, word_only, separated, comma, present, or_none, text_of}
-use Rattle.query_grammar.specs.Columns.{column, columns, orders}
+use Rattle.query_grammar.specs.Rules.{Grammar}
+use Rattle.token_forms.specs.Forms.{◌⨟◌, ◌⨟>◌, ◌<$>◌, ◌∣◌, Named, symbol_only, word_only, separated, comma, or_none, text_of}
+use Rattle.token_forms.specs.Columns.{column, columns}
+use Rattle.token_forms.specs.Phrases.{alias, from}
 use Rattle.query_grammar.specs.Scalars.{level, distance}
-
--- [[AS] name]
-unfoldable pub alias : Grammar (Option Named)
-alias = option (option (word_only word.As) ⨟> name)
 
 -- value := column | LEVEL "(" column ")" | DISTANCE "(" column ")"
 unfoldable pub value : Grammar ScalarTree
@@ -38,27 +35,10 @@ items = separated comma item
 unfoldable pub list : Grammar SelectTree
 list = (λ _. select_tree.All) <$> symbol_only symbol.Star ∣ select_tree.Items <$> items
 
--- The place of the written name stands beside that of the table's name.
-abbrev pub from_tree : Named × Option Named → FromTree
-from_tree (n, None) = record { table = n.0; name = None; at = n.1; name_at = n.1 }
-from_tree (n, Some m) = record { table = n.0; name = Some m.0; at = n.1; name_at = m.1 }
-
--- from := name [[AS] name]
-unfoldable pub from : Grammar FromTree
-from = from_tree <$> name ⨟ alias
-
 -- from { "," from }
 unfoldable pub from_items : Grammar (List FromTree)
 from_items = separated comma from
 
--- [DISTINCT]
-unfoldable pub distinctness : Grammar Bool
-distinctness = present <$> option (word_only word.Distinct)
-
 -- [GROUPING column { "," column }]
 unfoldable pub groups : Grammar (List NameTree)
 groups = or_none <$> option (word_only word.Grouping ⨟> columns)
-
--- [ORDER BY order { "," order }]
-unfoldable pub ordering : Grammar (List OrderTree)
-ordering = or_none <$> option (word_only word.Order ⨟> word_only word.By ⨟> orders)

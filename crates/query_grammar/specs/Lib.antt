@@ -1,6 +1,4 @@
-pub mod Classes
-pub mod Forms
-pub mod Columns
+pub mod Rules
 pub mod Scalars
 pub mod Sets
 pub mod Items
@@ -11,6 +9,5 @@ pub mod ReadStatements
 pub mod Conditions
 pub mod Preferences
 pub mod Statements
-pub mod Place
 pub mod Scripts
 pub mod Outcome

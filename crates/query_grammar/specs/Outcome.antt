@@ -4,8 +4,8 @@ use Rattle.grammar_forms.specs.Reading.{Outcome, read, read_rule}
 use Rattle.prefsql_lexer.specs.declared.token.Token.{Token}
 use Rattle.prefsql_lexer.specs.declared.token.Keyword.TheVariants as word
 use Rattle.prefsql_lexer.specs.declared.token.Symbol.TheVariants as symbol
-use Rattle.query_grammar.specs.Classes.{class, name_class, number_class, chars_class, symbol_class, word_class}
-use Rattle.query_grammar.specs.Forms.{Grammar, Rule, condition_rule, preference_rule}
+use Rattle.token_forms.specs.Classes.{class, name_class, number_class, chars_class, symbol_class, word_class}
+use Rattle.query_grammar.specs.Rules.{Grammar, Rule, condition_rule, preference_rule}
 use Rattle.query_grammar.specs.ReadConditions.{condition}
 use Rattle.query_grammar.specs.ReadPreferences.{preference}
 

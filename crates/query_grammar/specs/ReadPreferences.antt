@@ -12,9 +12,10 @@ use Rattle.query_tree.specs.declared.preference.BaseForm.TheVariants as base_for
 use Rattle.query_tree.specs.declared.preference.BaseTree.{BaseTree}
 use Rattle.query_tree.specs.declared.preference.PrefTree.{PrefTree}
 use Rattle.query_tree.specs.declared.preference.PrefTree.TheVariants as pref_tree
-use Rattle.query_grammar.specs.Classes.{symbol_class}
-use Rattle.query_grammar.specs.Forms.{Grammar, preference_rule, ◌⨟◌, ◌⨟>◌, ◌<⨟◌, ◌<$>◌, ◌∣◌, symbol_only, word_at, word_only, separated, comma, in_parens, or_none, chain}
-use Rattle.query_grammar.specs.Columns.{column, literal}
+use Rattle.token_forms.specs.Classes.{symbol_class}
+use Rattle.query_grammar.specs.Rules.{Grammar, preference_rule}
+use Rattle.token_forms.specs.Forms.{◌⨟◌, ◌⨟>◌, ◌<⨟◌, ◌<$>◌, ◌∣◌, symbol_only, word_at, word_only, separated, comma, in_parens, or_none, chain}
+use Rattle.token_forms.specs.Columns.{column, literal}
 use Rattle.query_grammar.specs.Sets.{single, set, sets, edges, mark}
 
 -- "=" literal | IN set

@@ -5,8 +5,10 @@ use Rattle.prefsql_lexer.specs.declared.token.Keyword.TheVariants as word
 use Rattle.prefsql_lexer.specs.declared.token.Symbol.TheVariants as symbol
 use Rattle.query_tree.specs.declared.condition.CondTree.{CondTree}
 use Rattle.query_tree.specs.declared.query.QueryTree.{QueryTree}
-use Rattle.query_grammar.specs.Forms.{Grammar, ◌⨟◌, ◌⨟>◌, ◌<$>◌, symbol_only, word_only}
-use Rattle.query_grammar.specs.Items.{list, from_items, distinctness, groups, ordering}
+use Rattle.query_grammar.specs.Rules.{Grammar}
+use Rattle.token_forms.specs.Forms.{◌⨟◌, ◌⨟>◌, ◌<$>◌, symbol_only, word_only}
+use Rattle.query_grammar.specs.Items.{list, from_items, groups}
+use Rattle.token_forms.specs.Phrases.{distinctness, ordering}
 use Rattle.query_grammar.specs.Trees.{Preferred, query_tree}
 use Rattle.query_grammar.specs.ReadConditions.{condition}
 use Rattle.query_grammar.specs.ReadPreferences.{preference}

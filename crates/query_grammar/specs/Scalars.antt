@@ -1,15 +1,16 @@
 -- What a condition compares, and the tests on it, each without NOT: this project's own profile of SQL-92 (ISO/IEC 9075:1992),
 -- with the qualities LEVEL and DISTANCE of Preference SQL (Kießling and Köstler 2002).
 use Rattle.std.specs.Prelude.{Bool, true, false, List}
-use Rattle.grammar_forms.specs.Form.{option}
 use Rattle.prefsql_lexer.specs.declared.token.Keyword.TheVariants as word
 use Rattle.prefsql_values.specs.declared.value.CompareOp.{CompareOp}
 use Rattle.query_tree.specs.declared.condition.ScalarTree.{ScalarTree}
 use Rattle.query_tree.specs.declared.condition.ScalarTree.TheVariants as scalar_tree
 use Rattle.query_tree.specs.declared.condition.CondTree.{CondTree}
 use Rattle.query_tree.specs.declared.condition.CondTree.TheVariants as cond_tree
-use Rattle.query_grammar.specs.Forms.{Grammar, ◌⨟◌, ◌⨟>◌, ◌<⨟◌, ◌<$>◌, ◌∣◌, word_at, word_only, separated, comma, in_parens, present}
-use Rattle.query_grammar.specs.Columns.{column, literal, op}
+use Rattle.query_grammar.specs.Rules.{Grammar}
+use Rattle.token_forms.specs.Forms.{◌⨟◌, ◌⨟>◌, ◌<⨟◌, ◌<$>◌, ◌∣◌, word_at, word_only, separated, comma, in_parens}
+use Rattle.token_forms.specs.Columns.{column, literal, op}
+use Rattle.token_forms.specs.Phrases.{negation}
 
 -- LEVEL "(" column ")", with the place of the word
 unfoldable pub level : Grammar ScalarTree
@@ -30,10 +31,6 @@ scalar true = level ∣ distance ∣ plain_scalar
 -- scalar { "," scalar }
 unfoldable pub scalars : Bool → Grammar (List ScalarTree)
 scalars q = separated comma (scalar q)
-
--- [NOT]
-unfoldable pub negation : Grammar Bool
-negation = present <$> option (word_only word.Not)
 
 -- the condition that what stands after the left scalar makes of it
 abbrev pub Rest : Type 0

@@ -7,10 +7,10 @@ use Rattle.prefsql_lexer.specs.declared.fault.Spot.{Spot}
 use Rattle.prefsql_lexer.specs.declared.token.Token.{Token}
 use Rattle.prefsql_lexer.specs.declared.token.Keyword.TheVariants.{Select}
 use Rattle.query_tree.specs.declared.query.QueryTree.{QueryTree}
-use Rattle.query_grammar.specs.Classes.{class, word_class}
-use Rattle.query_grammar.specs.Forms.{Grammar, Rule}
+use Rattle.token_forms.specs.Classes.{class, word_class}
+use Rattle.query_grammar.specs.Rules.{Grammar, Rule}
 use Rattle.query_grammar.specs.Statements.{statement, ended, script, production}
-use Rattle.query_grammar.specs.Place.{place_of}
+use Rattle.token_forms.specs.Place.{place_of}
 
 abbrev pub max_statements : ℕ
 max_statements = 64

@@ -7,8 +7,9 @@ use Rattle.prefsql_lexer.specs.declared.token.Symbol.TheVariants as symbol
 use Rattle.query_tree.specs.declared.name.LiteralTree.{LiteralTree}
 use Rattle.query_tree.specs.declared.preference.SetTree.{SetTree}
 use Rattle.query_tree.specs.declared.preference.EdgeTree.{EdgeTree}
-use Rattle.query_grammar.specs.Forms.{Grammar, ◌⨟◌, ◌⨟>◌, ◌<$>◌, ◌∣◌, symbol_only, word_only, separated, comma, in_parens}
-use Rattle.query_grammar.specs.Columns.{literal, literals, if_written}
+use Rattle.query_grammar.specs.Rules.{Grammar}
+use Rattle.token_forms.specs.Forms.{◌⨟◌, ◌⨟>◌, ◌<$>◌, ◌∣◌, symbol_only, word_only, separated, comma, in_parens}
+use Rattle.token_forms.specs.Columns.{literal, literals, if_written}
 
 abbrev pub set_tree : List LiteralTree → SetTree
 set_tree literals = record { literals = literals }

@@ -5,8 +5,10 @@ use Rattle.grammar_forms.specs.Form.{option, many}
 use Rattle.prefsql_lexer.specs.declared.token.Keyword.TheVariants as word
 use Rattle.prefsql_lexer.specs.declared.token.Symbol.TheVariants as symbol
 use Rattle.query_tree.specs.declared.query.QueryTree.{QueryTree}
-use Rattle.query_grammar.specs.Forms.{Grammar, Rule, condition_rule, preference_rule, ◌⨟◌, ◌⨟>◌, ◌<⨟◌, ◌<$>◌, symbol_only, word_only}
-use Rattle.query_grammar.specs.Items.{list, from_items, distinctness, groups, ordering}
+use Rattle.query_grammar.specs.Rules.{Grammar, Rule, condition_rule, preference_rule}
+use Rattle.token_forms.specs.Forms.{◌⨟◌, ◌⨟>◌, ◌<⨟◌, ◌<$>◌, symbol_only, word_only}
+use Rattle.query_grammar.specs.Items.{list, from_items, groups}
+use Rattle.token_forms.specs.Phrases.{distinctness, ordering}
 use Rattle.query_grammar.specs.Trees.{Preferred, query_tree}
 use Rattle.query_grammar.specs.Conditions.{cond}
 use Rattle.query_grammar.specs.Preferences.{pref}

@@ -13,12 +13,13 @@ use Rattle.prefsql_lexer.specs.declared.token.TokenKind.TheVariants as kind
 use Rattle.query_tree.proofs.Rising.{Rises, Rises-wider, Rises-append}
 use Rattle.query_tree.specs.WellMade.{IsFilled}
 use Rattle.prefsql_values.specs.Limits.{IsName, IsUnsignedShort}
-use Rattle.query_grammar.specs.declared.class.TokenClass.{TokenClass}
-use Rattle.query_grammar.specs.declared.class.TokenClass.TheVariants as token_class
-use Rattle.query_grammar.specs.Classes.{class, kind_class, number_of, name_class, number_class, text_in, number_in}
-use Rattle.query_grammar.specs.Forms.{Grammar, Rule, Named, name, number, separated, in_parens, ◌⨟>◌}
-use Rattle.query_grammar.proofs.Classes.{same_number}
-use Rattle.query_grammar.proofs.Depth.{rises, falls}
+use Rattle.token_forms.specs.declared.class.TokenClass.{TokenClass}
+use Rattle.token_forms.specs.declared.class.TokenClass.TheVariants as token_class
+use Rattle.token_forms.specs.Classes.{class, kind_class, number_of, name_class, number_class, text_in, number_in}
+use Rattle.query_grammar.specs.Rules.{Grammar, Rule}
+use Rattle.token_forms.specs.Forms.{Named, name, number, separated, in_parens, ◌⨟>◌}
+use Rattle.token_forms.proofs.Classes.{same_number}
+use Rattle.token_forms.proofs.Depth.{rises, falls}
 
 abbrev is_name_class : TokenClass → Bool
 is_name_class token_class.Name = true

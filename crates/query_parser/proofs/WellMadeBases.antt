@@ -13,8 +13,9 @@ use Rattle.query_tree.specs.declared.preference.BaseTree.{BaseTree}
 use Rattle.query_tree.proofs.Rising.{Rises, Rises-ends, Rises-wider, Rises-append}
 use Rattle.query_tree.specs.Places.{set_places, edge_places, form_places, base_places}
 use Rattle.query_tree.specs.WellMade.{IsColumn, IsLiteral, IsSet, IsEdge, IsForm, IsBase, KeepsTrivial, IsFilled, IsCountable}
-use Rattle.query_grammar.specs.Forms.{Grammar, Rule, word_only, comma, in_parens, or_none, ◌⨟◌, ◌⨟>◌, ◌<$>◌}
-use Rattle.query_grammar.specs.Columns.{column, literal}
+use Rattle.query_grammar.specs.Rules.{Grammar, Rule}
+use Rattle.token_forms.specs.Forms.{word_only, comma, in_parens, or_none, ◌⨟◌, ◌⨟>◌, ◌<$>◌}
+use Rattle.token_forms.specs.Columns.{column, literal}
 use Rattle.query_grammar.specs.Sets.{single, set, sets, edges, mark}
 use Rattle.query_grammar.specs.Preferences.{good, bad, layers, layers_tree, Unmarked, on_column, extremum, else_good, else_bad, good_tree, bad_tree, around_tree, between_tree, layered_tree, other, explicit_tree, graph, marked, base}
 use Rattle.query_parser.proofs.Parts.{Part, Parts, moved, At, skip, stands_filled, parts_filled, enclosed_part}

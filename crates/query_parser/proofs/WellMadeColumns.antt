@@ -16,8 +16,9 @@ use Rattle.query_tree.proofs.Rising.{Rises}
 use Rattle.query_tree.specs.Places.{scalar_places, set_places, edge_places}
 use Rattle.query_tree.specs.WellMade.{IsColumn, IsLiteral, IsScalar, IsSet, IsEdge, IsFilled}
 use Rattle.prefsql_values.specs.Limits.{IsName, IsUnsignedShort}
-use Rattle.query_grammar.specs.Forms.{Rule, Named, name, text_of, symbol_only, ◌⨟>◌}
-use Rattle.query_grammar.specs.Columns.{column, column_tree, sign, optional_sign, number_literal, text_literal, number_form, literal, literals}
+use Rattle.query_grammar.specs.Rules.{Rule}
+use Rattle.token_forms.specs.Forms.{Named, name, text_of, symbol_only, ◌⨟>◌}
+use Rattle.token_forms.specs.Columns.{column, column_tree, sign, optional_sign, number_literal, text_literal, number_form, literal, literals}
 use Rattle.query_grammar.specs.Scalars.{level, distance, plain_scalar, scalar, scalars}
 use Rattle.query_grammar.specs.Sets.{set, sets, set_tree, edge, edges, edge_tree, single}
 use Rattle.query_parser.proofs.Parts.{Part, Parts, moved, At, name_part, number_part, stands_filled, skip, separated_parts, parts_filled, enclosed_part}

@@ -10,8 +10,8 @@ use Rattle.grammar_forms.proofs.Nesting.{turn, after}
 use Rattle.prefsql_lexer.specs.declared.token.Keyword.TheVariants as word
 use Rattle.prefsql_lexer.specs.declared.token.Token.{Token}
 use Rattle.prefsql_values.specs.declared.value.CompareOp.{CompareOp}
-use Rattle.query_grammar.specs.Classes.{class}
-use Rattle.query_grammar.proofs.Depth.{rises, falls}
+use Rattle.token_forms.specs.Classes.{class}
+use Rattle.token_forms.proofs.Depth.{rises, falls}
 use Rattle.query_tree.specs.declared.condition.ScalarTree.{ScalarTree}
 use Rattle.query_tree.specs.declared.condition.CondTree.{CondTree}
 use Rattle.query_tree.specs.declared.condition.CondTree.TheVariants as cond_tree
@@ -24,9 +24,11 @@ use Rattle.prefsql_values.specs.Nesting.{Standing, alone, in_and, in_or, after_n
 use Rattle.query_tree.specs.Nesting.{nesting_in}
 use Rattle.query_tree.specs.Places.{scalar_places, cond_places, pref_places}
 use Rattle.query_tree.specs.WellMade.{IsColumn, IsChain, IsFilled, IsScalar, IsCond, IsPref}
-use Rattle.query_grammar.specs.Forms.{Grammar, Rule, condition_rule, preference_rule, word_only, in_parens, chain, ◌⨟◌, ◌⨟>◌, ◌<⨟◌}
-use Rattle.query_grammar.specs.Columns.{column, op, literal, number_form, optional_sign}
-use Rattle.query_grammar.specs.Scalars.{Rest, level, distance, plain_scalar, scalar, scalars, negation, comparison, between, member, null_test, negated_rest, test_tree, negated_tree}
+use Rattle.query_grammar.specs.Rules.{Grammar, Rule, condition_rule, preference_rule}
+use Rattle.token_forms.specs.Forms.{word_only, in_parens, chain, ◌⨟◌, ◌⨟>◌, ◌<⨟◌}
+use Rattle.token_forms.specs.Columns.{column, op, literal, number_form, optional_sign}
+use Rattle.query_grammar.specs.Scalars.{Rest, level, distance, plain_scalar, scalar, scalars, comparison, between, member, null_test, negated_rest, test_tree, negated_tree}
+use Rattle.token_forms.specs.Phrases.{negation}
 use Rattle.query_grammar.specs.Conditions.{rest, test, neg, conj, cond}
 use Rattle.query_grammar.specs.Preferences.{prim, par, pref}
 use Rattle.query_parser.proofs.Parts.{Part, Parts, moved, At, skip, stands_filled, parts_filled, separated_parts, enclosed_part}

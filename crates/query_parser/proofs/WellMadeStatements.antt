@@ -26,16 +26,20 @@ use Rattle.prefsql_values.specs.Nesting.{alone}
 use Rattle.query_tree.specs.Places.{scalar_places, cond_places, pref_places, select_places, places_if, query_places}
 use Rattle.query_tree.specs.WellMade.{IsColumn, IsOutput, IsItem, IsSelect, IsFrom, IsOrderName, IsOrder, IsCondition, IsPref, IsQuery, IsCountable, AreWellMade}
 use Rattle.prefsql_values.specs.Limits.{IsName}
-use Rattle.query_grammar.specs.Classes.{class}
-use Rattle.query_grammar.specs.Forms.{Grammar, Rule, condition_rule, preference_rule, Named, name, number, word_only, or_none, text_of, ◌⨟>◌}
-use Rattle.query_grammar.specs.Columns.{column, columns, direction, order, orders, named_key, position_key, order_tree}
-use Rattle.query_grammar.specs.Items.{alias, value, item, item_tree, items, list, from, from_tree, from_items, distinctness, groups, ordering}
+use Rattle.token_forms.specs.Classes.{class}
+use Rattle.query_grammar.specs.Rules.{Grammar, Rule, condition_rule, preference_rule}
+use Rattle.token_forms.specs.Forms.{Named, name, number, word_only, or_none, text_of, ◌⨟>◌}
+use Rattle.token_forms.specs.Columns.{column, columns, direction, order, orders, named_key, position_key, order_tree}
+use Rattle.token_forms.specs.Phrases.{alias, from, from_tree, distinctness, ordering}
+use Rattle.query_grammar.specs.Items.{value, item, item_tree, items, list, from_items, groups}
 use Rattle.query_grammar.specs.Trees.{Preferred, query_tree}
 use Rattle.query_grammar.specs.Conditions.{cond}
 use Rattle.query_grammar.specs.Preferences.{pref, par, prim}
 use Rattle.query_grammar.specs.Statements.{prefer, statement, ended, with_last, script, production}
 use Rattle.query_grammar.specs.Scripts.{IsWhole, IsScript}
-use Rattle.query_grammar.proofs.Depth.{rises, falls, StaysWithin, NestWithin-stays, production_keeps, script_keeps}
+use Rattle.token_forms.proofs.Depth.{rises, falls}
+use Rattle.token_forms.proofs.Depth.{StaysWithin, NestWithin-stays}
+use Rattle.query_grammar.proofs.Depth.{production_keeps, script_keeps}
 use Rattle.query_parser.proofs.Parts.{Part, Parts, moved, At, skip, name_part, number_part, stands_filled, parts_filled, separated_parts, first_byte, behind, Fine}
 use Rattle.query_parser.proofs.WellMadeColumns.{column_place, column_part, level_part, distance_part}
 use Rattle.query_parser.proofs.WellMadeConditions.{Good, Fits, by_itself, cond_part, pref_part}
@@ -347,7 +351,7 @@ module _ (last : ℕ) (small : last < 2 ^ 32) where
   abbrev RunsTo : ℕ → ℕ → List Token → ℕ → Type 0
   RunsTo d lo ts hi = Runs Token Rule class rises falls 64 first_byte behind last Fine d lo ts hi
 
-  runs_of : (d lo : ℕ) (ts : List Token) → All (λ t. IsNameShort t.kind) ts → All (λ t. IsNumberSmall t.kind) ts → StaysWithin 64 d ts → SpansAscend lo last ts → RunsTo d lo ts last
+  runs_of : (d lo : ℕ) (ts : List Token) → All (λ t. IsNameShort t.kind) ts → All (λ t. IsNumberSmall t.kind) ts → StaysWithin Rule 64 d ts → SpansAscend lo last ts → RunsTo d lo ts last
   runs_of d lo [] names numbers nest spans = spans
   runs_of d lo (t ∷ ts) names numbers nest spans = (
     record { deep = nest.0; from = spans.0; filled = spans.1; upto = omega arith; fine = (All-head (λ u. IsNameShort u.kind) t ts names, All-head (λ u. IsNumberSmall u.kind) t ts numbers) },
@@ -376,7 +380,7 @@ module _ (last : ℕ) (small : last < 2 ^ 32) where
 
 -- The trees of a script whose tokens keep the limits are well made.
 pub trees_well_made : (ts : List Token) (end : ℕ) (trees : List QueryTree) → end < 2 ^ 32 → AreTokensOf 64 end ts → IsScript ts trees → AreWellMade trees
-trees_well_made ts end trees small tokens w = whole_good end small w.1.0 ts trees (runs_of end small 0 0 ts tokens.names tokens.numbers (NestWithin-stays 64 0 ts tokens.depth) tokens.spans) w.1.1
+trees_well_made ts end trees small tokens w = whole_good end small w.1.0 ts trees (runs_of end small 0 0 ts tokens.names tokens.numbers (NestWithin-stays Rule 64 0 ts tokens.depth) tokens.spans) w.1.1
 
 -- ---- no more trees than tokens
 

@@ -2,7 +2,7 @@
 
 ghost use Rattle.std.specs.Prelude.{◌≡◌, ◌≤◌, IfOk, IfErr, length};
 ghost use Rattle.prefsql_lexer.specs.Bounds.{AreTokensOf};
-ghost use Rattle.query_grammar.specs.Place.{SaysCode, place_of};
+ghost use Rattle.token_forms.specs.Place.{SaysCode, place_of};
 ghost use Rattle.query_grammar.specs.Scripts.{IsScript};
 ghost use Rattle.query_parser.specs.Script.{SaysFault};
 ghost use Rattle.query_tree.specs.WellMade.{AreWellMade};
@@ -10,9 +10,10 @@ ghost use Rattle.query_tree.specs.WellMade.{AreWellMade};
 use crate::fault::ParseFault;
 use prefsql_lexer::{Keyword, Spot, Token};
 use prefsql_values::List;
-use query_reader::{Cursor, Parser, Stop};
+use query_reader::Parser;
 use query_tree::QueryTree;
 use std::alloc::Global;
+use token_forms::{Cursor, Stop};
 
 /// How deep parentheses may nest.
 const MAX_NESTING: usize = 64;

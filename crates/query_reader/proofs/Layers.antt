@@ -5,9 +5,9 @@ use Rattle.prefsql_lexer.specs.declared.token.Token.{Token}
 use Rattle.prefsql_lexer.specs.declared.token.Keyword.TheVariants.{Others}
 use Rattle.query_tree.specs.declared.preference.SetTree.{SetTree}
 use Rattle.query_tree.specs.declared.preference.BaseForm.TheVariants.{Layered}
-use Rattle.query_grammar.specs.Classes.{class, word_class}
+use Rattle.token_forms.specs.Classes.{class, word_class}
 use Rattle.query_grammar.specs.ReadPreferences.{layers_form, layers_from_sets, sets_and_others}
-use Rattle.query_grammar.specs.Forms.{or_none}
+use Rattle.token_forms.specs.Forms.{or_none}
 use Rattle.query_grammar.specs.Outcome.{outcome}
 
 pub layers_by_sets : (d : ℕ) (ts same rest : List Token) (before : List SetTree) (after : Option (List SetTree)) (behind : List SetTree) → begins class (word_class Others ∷ []) ts ≡ false → same ≡ ts →

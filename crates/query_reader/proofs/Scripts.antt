@@ -6,12 +6,13 @@ use Rattle.prefsql_lexer.specs.declared.token.Token.{Token}
 use Rattle.prefsql_lexer.specs.declared.token.Keyword.TheVariants.{Select}
 use Rattle.prefsql_lexer.specs.declared.token.Symbol.TheVariants.{Semicolon}
 use Rattle.query_tree.specs.declared.query.QueryTree.{QueryTree}
-use Rattle.query_grammar.specs.Classes.{class, word_class, symbol_class}
+use Rattle.token_forms.specs.Classes.{class, word_class, symbol_class}
 use Rattle.query_grammar.specs.ReadStatements.{Counted, counted, counted_trees, statement_form}
 use Rattle.query_grammar.specs.Outcome.{outcome}
-use Rattle.query_reader.specs.Reads.{Reads, with_trees}
-use Rattle.query_reader.specs.declared.cursor.Stop.{Stop}
-use Rattle.query_reader.specs.declared.cursor.Stop.TheVariants.{Fault, Memory}
+use Rattle.token_forms.specs.Reads.{Reads}
+use Rattle.query_reader.specs.Reads.{with_trees}
+use Rattle.token_forms.specs.declared.cursor.Stop.{Stop}
+use Rattle.token_forms.specs.declared.cursor.Stop.TheVariants.{Fault, Memory}
 
 abbrev IsSelect : List Token → Bool
 IsSelect ts = begins class (word_class Select ∷ []) ts

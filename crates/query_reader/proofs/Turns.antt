@@ -6,14 +6,15 @@ use Rattle.grammar_forms.specs.Form.{token, many, rows}
 use Rattle.grammar_forms.specs.Reading.{begins, Outcome, with_value, read_token, read_by, read_rule}
 use Rattle.grammar_forms.proofs.Turns.{turn_found, turn_fault, turn_end, row_found, row_fault, row_last, row_end, read_takes, read_shorter}
 use Rattle.prefsql_lexer.specs.declared.token.Token.{Token}
-use Rattle.query_grammar.specs.Classes.{class}
-use Rattle.query_grammar.specs.Forms.{Grammar, Rule, ◌⨟>◌}
+use Rattle.token_forms.specs.Classes.{class}
+use Rattle.query_grammar.specs.Rules.{Grammar, Rule}
+use Rattle.token_forms.specs.Forms.{◌⨟>◌}
 use Rattle.query_grammar.specs.Outcome.{rule_starts, rule_continues, right_side, outcome, nested}
-use Rattle.query_reader.specs.Reads.{Reads, IsPushed, with_front, with_items}
-use Rattle.query_reader.specs.declared.cursor.Stop.{Stop}
-use Rattle.query_reader.specs.declared.cursor.Stop.TheVariants.{Fault, Memory}
+use Rattle.token_forms.specs.Reads.{Reads, IsPushed, with_front, with_items}
+use Rattle.token_forms.specs.declared.cursor.Stop.{Stop}
+use Rattle.token_forms.specs.declared.cursor.Stop.TheVariants.{Fault, Memory}
 use Rattle.query_grammar.proofs.Predictive.{predictive, first, agrees}
-use Rattle.query_reader.proofs.Kept.{pushed_read}
+use Rattle.token_forms.proofs.Kept.{pushed_read}
 
 front_twice : {A : Type 0} (found : List A) (v : A) (o : Outcome Token (List A)) → with_front found (with_value (λ vs. v ∷ vs) o) ≡ with_front (found ++ v ∷ []) o
 front_twice found v (Ok p) = ap (λ z. Ok (z, p.1)) (sym (append_assoc found (v ∷ []) p.0))

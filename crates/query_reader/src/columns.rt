@@ -1,20 +1,19 @@
 //! Columns, literals and sets.
 
 ghost use Rattle.std.specs.Prelude.{◌≡◌};
-ghost use Rattle.query_grammar.specs.Columns as columns;
+ghost use Rattle.token_forms.specs.Columns as columns;
 ghost use Rattle.query_grammar.specs.Sets as sets;
 ghost use Rattle.query_grammar.specs.Outcome.{outcome};
-ghost use Rattle.query_reader.specs.Reads.{Reads};
+ghost use Rattle.token_forms.specs.Reads.{Reads};
 
-use crate::cursor::{Cursor, Stop};
-use crate::held::{both, pushed};
 use crate::parser::Parser;
 use prefsql_lexer::Symbol;
 use prefsql_values::{List, Value};
 use query_tree::{LiteralTree, NameTree, SetTree};
+use token_forms::{both, pushed, Cursor, Stop};
 
 impl Parser {
-    #[tactic(auto, unfolding(query_grammar::specs::Columns::column))]
+    #[tactic(auto, unfolding(token_forms::specs::Columns::column))]
     pub(crate) fn column(self, tokens: &mut Cursor<'_>) -> Result<NameTree, Stop>
         ensures { Reads (outcome self.depth columns.column tokens.old) result tokens.new }
     {
@@ -28,7 +27,7 @@ impl Parser {
     }
 
     /// Whether a minus or a plus comes next, with its place.
-    #[tactic(auto, unfolding(query_grammar::specs::Columns::optional_sign), using(grammar_forms::proofs::Sets::begins_more))]
+    #[tactic(auto, unfolding(token_forms::specs::Columns::optional_sign), using(grammar_forms::proofs::Sets::begins_more))]
     fn sign(self, tokens: &mut Cursor<'_>) -> Result<Option<(bool, u32)>, Stop>
         ensures { Reads (outcome self.depth columns.optional_sign tokens.old) result tokens.new }
     {
@@ -41,7 +40,7 @@ impl Parser {
         Ok(None)
     }
 
-    #[tactic(auto, unfolding(query_grammar::specs::Columns::number_form))]
+    #[tactic(auto, unfolding(token_forms::specs::Columns::number_form))]
     fn number(self, tokens: &mut Cursor<'_>) -> Result<LiteralTree, Stop>
         ensures { Reads (outcome self.depth columns.number_form tokens.old) result tokens.new }
     {
@@ -50,7 +49,7 @@ impl Parser {
         Ok(signed(sign, number, at))
     }
 
-    #[tactic(auto, unfolding(query_grammar::specs::Columns::literal))]
+    #[tactic(auto, unfolding(token_forms::specs::Columns::literal))]
     pub(crate) fn literal(self, tokens: &mut Cursor<'_>) -> Result<LiteralTree, Stop>
         ensures { Reads (outcome self.depth columns.literal tokens.old) result tokens.new }
     {
@@ -64,7 +63,7 @@ impl Parser {
         self.number(tokens)
     }
 
-    #[tactic(auto, unfolding(query_grammar::specs::Columns::literals))]
+    #[tactic(auto, unfolding(token_forms::specs::Columns::literals))]
     pub(crate) fn literals(self, tokens: &mut Cursor<'_>) -> Result<List<LiteralTree>, Stop>
         ensures { Reads (outcome self.depth columns.literals tokens.old) result tokens.new }
     {

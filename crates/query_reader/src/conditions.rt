@@ -2,25 +2,26 @@
 
 ghost use Rattle.std.specs.Prelude.{◌≡◌, Ok, OnOk, length, ◌≤◌, List, [], ◌∷◌, IfOk};
 ghost use Rattle.grammar_forms.specs.Reading.{with_value, begins};
-ghost use Rattle.query_grammar.specs.Classes.{class, word_class};
-ghost use Rattle.query_grammar.specs.Columns as columns;
-ghost use Rattle.query_grammar.specs.Forms as forms;
+ghost use Rattle.token_forms.specs.Classes.{class, word_class};
+ghost use Rattle.token_forms.specs.Columns as columns;
+ghost use Rattle.token_forms.specs.Phrases as phrases;
+ghost use Rattle.query_grammar.specs.Rules.{condition_rule};
+ghost use Rattle.token_forms.specs.Forms as forms;
 ghost use Rattle.query_grammar.specs.ReadConditions as conditions;
 ghost use Rattle.query_grammar.specs.Scalars as scalars;
 ghost use Rattle.query_grammar.specs.Outcome.{outcome, nested};
-ghost use Rattle.query_reader.specs.Reads.{Reads};
+ghost use Rattle.token_forms.specs.Reads.{Reads};
 
-use crate::cursor::{Cursor, Stop};
-use crate::held::{both, pushed};
 use crate::parser::Parser;
 use prefsql_lexer::{Keyword, Symbol};
 use prefsql_values::{Boxed, CompareOp, List};
 use query_tree::{CondTree, NameTree, ScalarTree};
+use token_forms::{both, pushed, Cursor, Stop};
 
 impl Parser {
-    #[tactic(auto, unfolding(query_grammar::specs::Scalars::negation))]
+    #[tactic(auto, unfolding(token_forms::specs::Phrases::negation))]
     pub(crate) fn negation(self, tokens: &mut Cursor<'_>) -> bool
-        ensures { outcome self.depth scalars.negation tokens.old ≡ Ok (result, tokens.new) }
+        ensures { outcome self.depth phrases.negation tokens.old ≡ Ok (result, tokens.new) }
     {
         tokens.eat_word(Keyword::Not)
     }
@@ -50,7 +51,7 @@ impl Parser {
         Ok(ScalarTree::Distance(self.column_in_parens(tokens)?, at))
     }
 
-    #[tactic(auto, unfolding(query_grammar::specs::Scalars::plain_scalar, query_grammar::specs::Columns::column))]
+    #[tactic(auto, unfolding(query_grammar::specs::Scalars::plain_scalar, token_forms::specs::Columns::column))]
     fn plain_scalar(self, tokens: &mut Cursor<'_>) -> Result<ScalarTree, Stop>
         ensures { Reads (outcome self.depth scalars.plain_scalar tokens.old) result tokens.new }
     {
@@ -76,7 +77,7 @@ impl Parser {
         self.plain_scalar(tokens)
     }
 
-    #[tactic(auto, unfolding(query_grammar::specs::Columns::op))]
+    #[tactic(auto, unfolding(token_forms::specs::Columns::op))]
     fn operator(self, tokens: &mut Cursor<'_>) -> Result<CompareOp, Stop>
         ensures { Reads (outcome self.depth columns.op tokens.old) result tokens.new }
     {
@@ -179,7 +180,7 @@ impl Parser {
         Ok(CondTree::Compare(op, left, right))
     }
 
-    #[tactic(auto, unfolding(query_grammar::specs::ReadConditions::negatable, query_grammar::specs::Scalars::between), using(crate::proofs::Values::value_twice))]
+    #[tactic(auto, unfolding(query_grammar::specs::ReadConditions::negatable, query_grammar::specs::Scalars::between), using(token_forms::proofs::Values::value_twice))]
     fn negatable(
         self,
         tokens: &mut Cursor<'_>,
@@ -196,7 +197,7 @@ impl Parser {
         }
     }
 
-    #[tactic(auto, unfolding(query_grammar::specs::ReadConditions::rest_form, query_grammar::specs::Scalars::null_test, query_grammar::specs::ReadConditions::negatable, query_grammar::specs::Scalars::negation, query_grammar::specs::Scalars::between, query_grammar::specs::Scalars::member), using(grammar_forms::proofs::Sets::begins_more))]
+    #[tactic(auto, unfolding(query_grammar::specs::ReadConditions::rest_form, query_grammar::specs::Scalars::null_test, query_grammar::specs::ReadConditions::negatable, token_forms::specs::Phrases::negation, query_grammar::specs::Scalars::between, query_grammar::specs::Scalars::member), using(grammar_forms::proofs::Sets::begins_more))]
     fn rest(
         self,
         tokens: &mut Cursor<'_>,
@@ -220,7 +221,7 @@ impl Parser {
     /// A condition in parentheses.
     #[cycle(condition)]
     fn nested_condition(self, tokens: &mut Cursor<'_>, qualities: bool) -> Result<CondTree, Stop>
-        ensures { Reads (nested self.depth (forms.condition_rule qualities) tokens.old) result tokens.new }
+        ensures { Reads (nested self.depth (condition_rule qualities) tokens.old) result tokens.new }
     {
         if self.depth == 0 {
             return Err(Stop::Fault);
@@ -232,7 +233,7 @@ impl Parser {
         inner.condition(tokens, qualities)
     }
 
-    #[tactic(auto, unfolding(query_grammar::specs::ReadConditions::plain_test), using(crate::proofs::Values::value_twice))]
+    #[tactic(auto, unfolding(query_grammar::specs::ReadConditions::plain_test), using(token_forms::proofs::Values::value_twice))]
     #[cycle(condition)]
     fn plain_test(self, tokens: &mut Cursor<'_>, qualities: bool) -> Result<CondTree, Stop>
         ensures { Reads (outcome self.depth (conditions.plain_test qualities) tokens.old) result tokens.new }

@@ -4,11 +4,8 @@
 
 mod columns;
 mod conditions;
-mod cursor;
-mod held;
 mod parser;
 mod preferences;
 mod statements;
 
-pub use cursor::{Cursor, Stop};
 pub use parser::Parser;

@@ -2,18 +2,18 @@
 
 ghost use Rattle.std.specs.Prelude.{◌≡◌, IfOk, Ok};
 ghost use Rattle.grammar_forms.specs.Reading.{with_value};
-ghost use Rattle.query_grammar.specs.Forms as forms;
+ghost use Rattle.query_grammar.specs.Rules.{preference_rule};
+ghost use Rattle.token_forms.specs.Forms as forms;
 ghost use Rattle.query_grammar.specs.ReadPreferences as preferences;
 ghost use Rattle.query_grammar.specs.Sets as sets;
 ghost use Rattle.query_grammar.specs.Outcome.{nested, outcome};
-ghost use Rattle.query_reader.specs.Reads.{Reads};
+ghost use Rattle.token_forms.specs.Reads.{Reads};
 
-use crate::cursor::{Cursor, Stop};
-use crate::held::{both, pushed};
 use crate::parser::Parser;
 use prefsql_lexer::{Keyword, Symbol};
 use prefsql_values::{List, Memory};
 use query_tree::{BaseForm, BaseTree, EdgeTree, LiteralTree, PrefTree, SetTree};
+use token_forms::{both, pushed, Cursor, Stop};
 
 impl Parser {
     /// Whether TRIVIAL comes next, or else perhaps REGULAR.
@@ -82,7 +82,7 @@ impl Parser {
         self.set(tokens)
     }
 
-    #[tactic(auto, unfolding(query_grammar::specs::ReadPreferences::otherwise, query_grammar::specs::ReadPreferences::good_set), using(grammar_forms::proofs::Sets::begins_more, crate::proofs::Values::value_twice))]
+    #[tactic(auto, unfolding(query_grammar::specs::ReadPreferences::otherwise, query_grammar::specs::ReadPreferences::good_set), using(grammar_forms::proofs::Sets::begins_more, token_forms::proofs::Values::value_twice))]
     fn otherwise(self, tokens: &mut Cursor<'_>, first: SetTree) -> Result<BaseForm, Stop>
         ensures { Reads (with_value (λ h. h first) (outcome self.depth preferences.otherwise tokens.old)) result tokens.new }
     {
@@ -97,7 +97,7 @@ impl Parser {
         }
     }
 
-    #[tactic(auto, unfolding(query_grammar::specs::ReadPreferences::good_base, query_grammar::specs::ReadPreferences::otherwise), using(crate::proofs::Values::value_twice))]
+    #[tactic(auto, unfolding(query_grammar::specs::ReadPreferences::good_base, query_grammar::specs::ReadPreferences::otherwise), using(token_forms::proofs::Values::value_twice))]
     fn good(self, tokens: &mut Cursor<'_>) -> Result<BaseForm, Stop>
         ensures { Reads (outcome self.depth preferences.good_base tokens.old) result tokens.new }
     {
@@ -142,7 +142,7 @@ impl Parser {
     }
 
     /// The sets up to OTHERS, and those after it. A comma needs a second look: OTHERS or a set may follow.
-    #[tactic(auto, unfolding(query_grammar::specs::ReadPreferences::sets_and_others), using(crate::proofs::Values::value_twice))]
+    #[tactic(auto, unfolding(query_grammar::specs::ReadPreferences::sets_and_others), using(token_forms::proofs::Values::value_twice))]
     fn sets_and_others(
         self,
         tokens: &mut Cursor<'_>,
@@ -295,7 +295,7 @@ impl Parser {
     /// A preference in parentheses.
     #[cycle(preference)]
     fn nested_preference(self, tokens: &mut Cursor<'_>) -> Result<PrefTree, Stop>
-        ensures { Reads (nested self.depth forms.preference_rule tokens.old) result tokens.new }
+        ensures { Reads (nested self.depth preference_rule tokens.old) result tokens.new }
     {
         if self.depth == 0 {
             return Err(Stop::Fault);

@@ -1,16 +1,15 @@
 //! Statements and scripts.
 
 ghost use Rattle.std.specs.Prelude.{◌≡◌, Ok};
-ghost use Rattle.query_grammar.specs.Columns as columns;
+ghost use Rattle.token_forms.specs.Columns as columns;
+ghost use Rattle.token_forms.specs.Phrases as phrases;
 ghost use Rattle.query_grammar.specs.Items as items;
 ghost use Rattle.query_grammar.specs.ReadStatements as statements;
 ghost use Rattle.grammar_forms.specs.Form.{option};
 ghost use Rattle.query_grammar.specs.Trees.{query_tree};
 ghost use Rattle.query_grammar.specs.Outcome.{outcome};
-ghost use Rattle.query_reader.specs.Reads.{Reads};
+ghost use Rattle.token_forms.specs.Reads.{Reads};
 
-use crate::cursor::{Cursor, Stop};
-use crate::held::{both, pushed};
 use crate::parser::Parser;
 use prefsql_lexer::{Keyword, Symbol};
 use prefsql_values::{List, Text};
@@ -18,6 +17,7 @@ use query_tree::{
     CondTree, FromTree, ItemTree, NameTree, OrderName, OrderTree, PrefTree, QueryTree, ScalarTree,
     SelectTree,
 };
+use token_forms::{both, pushed, Cursor, Stop};
 
 const MAX_STATEMENTS: usize = 64;
 
@@ -26,9 +26,9 @@ type Preferred = (PrefTree, (List<NameTree>, Option<CondTree>));
 
 impl Parser {
     /// `[[AS] name]`
-    #[tactic(auto, unfolding(query_grammar::specs::Items::alias), using(grammar_forms::proofs::Sets::begins_more))]
+    #[tactic(auto, unfolding(token_forms::specs::Phrases::alias), using(grammar_forms::proofs::Sets::begins_more))]
     fn alias(self, tokens: &mut Cursor<'_>) -> Result<Option<(Text, u32)>, Stop>
-        ensures { Reads (outcome self.depth items.alias tokens.old) result tokens.new }
+        ensures { Reads (outcome self.depth phrases.alias tokens.old) result tokens.new }
     {
         if tokens.eat_word(Keyword::As) {
             return Ok(Some(tokens.name()?));
@@ -86,9 +86,9 @@ impl Parser {
         Ok(SelectTree::Items(self.items(tokens)?))
     }
 
-    #[tactic(auto, unfolding(query_grammar::specs::Items::from))]
+    #[tactic(auto, unfolding(token_forms::specs::Phrases::from))]
     fn from_item(self, tokens: &mut Cursor<'_>) -> Result<FromTree, Stop>
-        ensures { Reads (outcome self.depth items.from tokens.old) result tokens.new }
+        ensures { Reads (outcome self.depth phrases.from tokens.old) result tokens.new }
     {
         let (table, at) = tokens.name()?;
         let (table, alias) = both(table, self.alias(tokens))?;
@@ -120,7 +120,7 @@ impl Parser {
     }
 
     /// Whether DESC comes next, or else perhaps ASC.
-    #[tactic(auto, unfolding(query_grammar::specs::Columns::direction), using(grammar_forms::proofs::Sets::begins_more))]
+    #[tactic(auto, unfolding(token_forms::specs::Columns::direction), using(grammar_forms::proofs::Sets::begins_more))]
     fn direction(self, tokens: &mut Cursor<'_>) -> bool
         ensures { outcome self.depth columns.direction tokens.old ≡ Ok (result, tokens.new) }
     {
@@ -130,7 +130,7 @@ impl Parser {
         tokens.eat_word(Keyword::Desc)
     }
 
-    #[tactic(auto, unfolding(query_grammar::specs::Columns::order))]
+    #[tactic(auto, unfolding(token_forms::specs::Columns::order))]
     fn order_item(self, tokens: &mut Cursor<'_>) -> Result<OrderTree, Stop>
         ensures { Reads (outcome self.depth columns.order tokens.old) result tokens.new }
     {
@@ -152,7 +152,7 @@ impl Parser {
         })
     }
 
-    #[tactic(auto, unfolding(query_grammar::specs::Columns::orders))]
+    #[tactic(auto, unfolding(token_forms::specs::Columns::orders))]
     fn order_items(self, tokens: &mut Cursor<'_>) -> Result<List<OrderTree>, Stop>
         ensures { Reads (outcome self.depth columns.orders tokens.old) result tokens.new }
     {
@@ -163,7 +163,7 @@ impl Parser {
         Ok(found)
     }
 
-    #[tactic(auto, unfolding(query_grammar::specs::Columns::columns))]
+    #[tactic(auto, unfolding(token_forms::specs::Columns::columns))]
     fn columns(self, tokens: &mut Cursor<'_>) -> Result<List<NameTree>, Stop>
         ensures { Reads (outcome self.depth columns.columns tokens.old) result tokens.new }
     {
@@ -205,9 +205,9 @@ impl Parser {
         Ok(None)
     }
 
-    #[tactic(auto, unfolding(query_grammar::specs::Items::ordering))]
+    #[tactic(auto, unfolding(token_forms::specs::Phrases::ordering))]
     fn ordering(self, tokens: &mut Cursor<'_>) -> Result<List<OrderTree>, Stop>
-        ensures { Reads (outcome self.depth items.ordering tokens.old) result tokens.new }
+        ensures { Reads (outcome self.depth phrases.ordering tokens.old) result tokens.new }
     {
         if tokens.eat_word(Keyword::Order) {
             tokens.word(Keyword::By)?;
@@ -237,9 +237,9 @@ impl Parser {
         Ok(None)
     }
 
-    #[tactic(auto, unfolding(query_grammar::specs::Items::distinctness))]
+    #[tactic(auto, unfolding(token_forms::specs::Phrases::distinctness))]
     fn distinctness(self, tokens: &mut Cursor<'_>) -> bool
-        ensures { outcome self.depth items.distinctness tokens.old ≡ Ok (result, tokens.new) }
+        ensures { outcome self.depth phrases.distinctness tokens.old ≡ Ok (result, tokens.new) }
     {
         tokens.eat_word(Keyword::Distinct)
     }

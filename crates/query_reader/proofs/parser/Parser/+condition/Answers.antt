@@ -1,4 +1,4 @@
-use Rattle.query_grammar.specs.Forms.{condition_rule}
+use Rattle.query_grammar.specs.Rules.{condition_rule}
 use Rattle.query_grammar.specs.ReadConditions.{negated, conjuncts, conjunction, disjuncts}
 use Rattle.query_reader.proofs.Turns.{pushed_more, pushed_less, nested_none, nested_some}
 use Rattle.query_grammar.proofs.Predictive.{predictive-negated, predictive-conjunction}

@@ -1,11 +1,11 @@
 use Rattle.std.proofs.Common.{◌≡◌, ◌+◌, ◌*◌, length}
 use Rattle.grammar_forms.specs.Form.{many}
-use Rattle.query_grammar.specs.Forms as forms
+use Rattle.token_forms.specs.Forms as forms
 use Rattle.query_grammar.specs.ReadConditions as conditions
-use Rattle.query_grammar.specs.Forms.{◌⨟>◌}
+use Rattle.token_forms.specs.Forms.{◌⨟>◌}
 use Rattle.prefsql_lexer.specs.declared.token.Keyword.TheVariants.{And, Or}
 use Rattle.query_grammar.specs.Outcome.{outcome}
-use Rattle.query_reader.specs.Reads.{with_front}
+use Rattle.token_forms.specs.Reads.{with_front}
 use Rattle.query_reader.proofs.parser.Parser.+condition.Given as goal
 
 abbrev pub decreases-condition : goal.decreases-condition

@@ -1,4 +1,4 @@
-use Rattle.query_grammar.specs.Forms.{preference_rule}
+use Rattle.query_grammar.specs.Rules.{preference_rule}
 use Rattle.query_grammar.specs.ReadPreferences.{primary, primaries, pareto, cascade}
 use Rattle.query_reader.proofs.Turns.{pushed_more, pushed_less, nested_none, nested_some}
 use Rattle.query_grammar.proofs.Predictive.{predictive-primary, predictive-pareto}

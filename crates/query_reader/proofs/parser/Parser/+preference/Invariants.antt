@@ -1,11 +1,11 @@
 use Rattle.std.proofs.Common.{◌≡◌, ◌+◌, ◌*◌, length}
 use Rattle.grammar_forms.specs.Form.{many}
 use Rattle.prefsql_lexer.specs.declared.token.Keyword.TheVariants.{And, Cascade}
-use Rattle.query_grammar.specs.Forms as forms
+use Rattle.token_forms.specs.Forms as forms
 use Rattle.query_grammar.specs.ReadPreferences as preferences
-use Rattle.query_grammar.specs.Forms.{◌⨟>◌}
+use Rattle.token_forms.specs.Forms.{◌⨟>◌}
 use Rattle.query_grammar.specs.Outcome.{outcome}
-use Rattle.query_reader.specs.Reads.{with_front}
+use Rattle.token_forms.specs.Reads.{with_front}
 use Rattle.query_reader.proofs.parser.Parser.+preference.Given as goal
 
 abbrev pub decreases-preference : goal.decreases-preference

@@ -1,4 +1,4 @@
-use Rattle.query_grammar.specs.Columns.{column, columns}
+use Rattle.token_forms.specs.Columns.{column, columns}
 use Rattle.query_reader.proofs.Turns.{pushed_more, pushed_less}
 use Rattle.query_grammar.proofs.Predictive.{predictive-column}
 use Rattle.query_reader.proofs.parser.Parser.columns.Goals as goal

@@ -1,4 +1,5 @@
-use Rattle.query_grammar.specs.Items.{from, from_items}
+use Rattle.token_forms.specs.Phrases.{from}
+use Rattle.query_grammar.specs.Items.{from_items}
 use Rattle.query_reader.proofs.Turns.{pushed_more, pushed_less}
 use Rattle.query_grammar.proofs.Predictive.{predictive-from_item}
 use Rattle.query_reader.proofs.parser.Parser.from_items.Goals as goal

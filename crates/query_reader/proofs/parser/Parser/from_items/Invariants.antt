@@ -1,14 +1,15 @@
 use Rattle.std.proofs.Common.{◌≡◌, length}
 use Rattle.grammar_forms.specs.Form.{many}
-use Rattle.query_grammar.specs.Forms as forms
+use Rattle.token_forms.specs.Forms as forms
 use Rattle.query_grammar.specs.Items as items
-use Rattle.query_grammar.specs.Forms.{◌⨟>◌}
+use Rattle.token_forms.specs.Phrases as phrases
+use Rattle.token_forms.specs.Forms.{◌⨟>◌}
 use Rattle.query_grammar.specs.Outcome.{outcome}
-use Rattle.query_reader.specs.Reads.{with_front}
+use Rattle.token_forms.specs.Reads.{with_front}
 use Rattle.query_reader.proofs.parser.Parser.from_items.Given as goal
 
 abbrev pub invariant-more : goal.invariant-more
-invariant-more l = outcome l.self.depth (items.from_items) l.fn.tokens ≡ with_front l.found (outcome l.self.depth (many (forms.comma ⨟> items.from)) l.tokens)
+invariant-more l = outcome l.self.depth (items.from_items) l.fn.tokens ≡ with_front l.found (outcome l.self.depth (many (forms.comma ⨟> phrases.from)) l.tokens)
 
 abbrev pub decreases-more : goal.decreases-more
 decreases-more l = length l.tokens

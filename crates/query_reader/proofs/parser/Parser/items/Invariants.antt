@@ -1,10 +1,10 @@
 use Rattle.std.proofs.Common.{◌≡◌, length}
 use Rattle.grammar_forms.specs.Form.{many}
-use Rattle.query_grammar.specs.Forms as forms
+use Rattle.token_forms.specs.Forms as forms
 use Rattle.query_grammar.specs.Items as items
-use Rattle.query_grammar.specs.Forms.{◌⨟>◌}
+use Rattle.token_forms.specs.Forms.{◌⨟>◌}
 use Rattle.query_grammar.specs.Outcome.{outcome}
-use Rattle.query_reader.specs.Reads.{with_front}
+use Rattle.token_forms.specs.Reads.{with_front}
 use Rattle.query_reader.proofs.parser.Parser.items.Given as goal
 
 abbrev pub invariant-more : goal.invariant-more

@@ -1,4 +1,4 @@
-use Rattle.query_grammar.specs.Columns.{literal, literals}
+use Rattle.token_forms.specs.Columns.{literal, literals}
 use Rattle.query_reader.proofs.Turns.{pushed_more, pushed_less}
 use Rattle.query_grammar.proofs.Predictive.{predictive-literal}
 use Rattle.query_reader.proofs.parser.Parser.literals.Goals as goal

@@ -1,4 +1,4 @@
-use Rattle.query_grammar.specs.Columns.{order, orders}
+use Rattle.token_forms.specs.Columns.{order, orders}
 use Rattle.query_reader.proofs.Turns.{pushed_more, pushed_less}
 use Rattle.query_grammar.proofs.Predictive.{predictive-order_item}
 use Rattle.query_reader.proofs.parser.Parser.order_items.Goals as goal

@@ -2,7 +2,7 @@ use Rattle.std.proofs.Common.{sym, arith}
 use Rattle.std.proofs.lemmas.Result.{err_from_is_err_and}
 use Rattle.query_grammar.specs.Outcome.{outcome}
 use Rattle.query_grammar.specs.ReadStatements.{statement_form}
-use Rattle.query_reader.proofs.Kept.{pushed_read, pushed_err}
+use Rattle.token_forms.proofs.Kept.{pushed_read, pushed_err}
 use Rattle.query_reader.proofs.Scripts.{script_stop, script_err, script_last, script_more, script_full}
 use Rattle.query_reader.proofs.parser.Parser.script.Goals as goal
 

@@ -3,7 +3,7 @@ use Rattle.std.proofs.lemmas.Result.{err_from_is_err_and}
 use Rattle.query_grammar.specs.Sets.{set}
 use Rattle.query_grammar.specs.ReadPreferences.{others, more_layers}
 use Rattle.query_grammar.specs.Outcome.{outcome}
-use Rattle.query_reader.proofs.Kept.{read_ok, read_err, pushed_read, pushed_err}
+use Rattle.token_forms.proofs.Kept.{read_ok, read_err, pushed_read, pushed_err}
 use Rattle.query_reader.proofs.Turns.{rows_less, rows_end, rows_more, rows_item_err, rows_last, rows_last_err}
 use Rattle.query_grammar.proofs.Predictive.{predictive-set}
 use Rattle.query_reader.proofs.parser.Parser.sets_and_others.Goals as goal

@@ -1,7 +1,7 @@
 use Rattle.std.proofs.Common.{◌≡◌, length}
 use Rattle.query_grammar.specs.ReadPreferences as preferences
 use Rattle.query_grammar.specs.Outcome.{outcome}
-use Rattle.query_reader.specs.Reads.{with_items}
+use Rattle.token_forms.specs.Reads.{with_items}
 use Rattle.query_reader.proofs.parser.Parser.sets_and_others.Given as goal
 
 abbrev pub invariant-more : goal.invariant-more

@@ -1,7 +1,7 @@
 //! The classes by which a grammar tells tokens apart.
 
 ghost use Rattle.std.specs.Prelude.{◌≡◌, ◌==◌};
-ghost use Rattle.query_grammar.specs.Classes as spec;
+ghost use Rattle.token_forms.specs.Classes as spec;
 
 use prefsql_lexer::{Keyword, Symbol, Token, TokenKind};
 

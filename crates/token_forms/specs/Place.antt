@@ -2,7 +2,7 @@
 use Rattle.std.specs.Prelude.{◌≡◌, ℕ, ◌⊎◌, Bool, true, false, List, [], ◌∷◌}
 use Rattle.prefsql_lexer.specs.declared.token.Token.{Token}
 use Rattle.prefsql_lexer.specs.declared.token.Keyword.TheVariants.{Select}
-use Rattle.query_grammar.specs.Classes.{class, word_class}
+use Rattle.token_forms.specs.Classes.{class, word_class}
 
 -- the place of the next token, or of the end where there is none
 abbrev pub place_of : List Token → ℕ → ℕ

@@ -2,9 +2,9 @@
 use Rattle.std.proofs.Common.{◌≡◌, List, [], ◌∷◌, get_or, refl, sym, ap, ◌∙◌}
 use Rattle.prefsql_lexer.specs.declared.token.Keyword.TheVariants as word
 use Rattle.prefsql_lexer.specs.declared.token.Symbol.TheVariants as symbol
-use Rattle.query_grammar.specs.declared.class.TokenClass.{TokenClass}
-use Rattle.query_grammar.specs.declared.class.TokenClass.TheVariants.{Name, Number, Text, Symbol, Word}
-use Rattle.query_grammar.specs.Classes.{number_of}
+use Rattle.token_forms.specs.declared.class.TokenClass.{TokenClass}
+use Rattle.token_forms.specs.declared.class.TokenClass.TheVariants.{Name, Number, Text, Symbol, Word}
+use Rattle.token_forms.specs.Classes.{number_of}
 
 -- the classes in the order of their numbers
 abbrev classes : List TokenClass

@@ -7,8 +7,8 @@ use Rattle.prefsql_lexer.specs.declared.token.Symbol.TheVariants as symbol
 use Rattle.prefsql_lexer.specs.declared.token.TokenKind.{TokenKind}
 use Rattle.prefsql_lexer.specs.declared.token.TokenKind.TheVariants as kind
 use Rattle.prefsql_lexer.specs.declared.token.Token.{Token}
-use Rattle.query_grammar.specs.declared.class.TokenClass.{TokenClass}
-use Rattle.query_grammar.specs.declared.class.TokenClass.TheVariants as token_class
+use Rattle.token_forms.specs.declared.class.TokenClass.{TokenClass}
+use Rattle.token_forms.specs.declared.class.TokenClass.TheVariants as token_class
 
 abbrev pub kind_class : TokenKind → TokenClass
 kind_class (kind.Word w) = token_class.Word w

@@ -12,26 +12,26 @@ use Rattle.query_tree.specs.declared.name.LiteralTree.{LiteralTree}
 use Rattle.query_tree.specs.declared.query.OrderName.{OrderName}
 use Rattle.query_tree.specs.declared.query.OrderName.TheVariants as order_name
 use Rattle.query_tree.specs.declared.query.OrderTree.{OrderTree}
-use Rattle.query_grammar.specs.Forms.{Grammar, ◌⨟◌, ◌⨟>◌, ◌<$>◌, ◌∣◌, Named, name, number, chars, symbol_at, symbol_only, word_only, separated, comma, text_of}
+use Rattle.token_forms.specs.Forms.{GrammarOf, ◌⨟◌, ◌⨟>◌, ◌<$>◌, ◌∣◌, Named, name, number, chars, symbol_at, symbol_only, word_only, separated, comma, text_of}
 
 -- The place of a column is that of its first identifier.
 abbrev pub column_tree : Named × Option Named → NameTree
 column_tree p = record { first = p.0.0; second = text_of p.1; at = p.0.1 }
 
 -- column := name ["." name]
-unfoldable pub column : Grammar NameTree
+unfoldable pub column : {Rule : Type 0 → Type 1} → GrammarOf Rule NameTree
 column = column_tree <$> name ⨟ option (symbol_only symbol.Dot ⨟> name)
 
 -- column { "," column }
-unfoldable pub columns : Grammar (List NameTree)
+unfoldable pub columns : {Rule : Type 0 → Type 1} → GrammarOf Rule (List NameTree)
 columns = separated comma column
 
 -- whether it is a minus, and its place
-abbrev pub sign : Grammar (Bool × ℕ)
+abbrev pub sign : {Rule : Type 0 → Type 1} → GrammarOf Rule (Bool × ℕ)
 sign = (λ at. (false, at)) <$> symbol_at symbol.Plus ∣ (λ at. (true, at)) <$> symbol_at symbol.Minus
 
 -- ["+" | "-"]
-unfoldable pub optional_sign : Grammar (Option (Bool × ℕ))
+unfoldable pub optional_sign : {Rule : Type 0 → Type 1} → GrammarOf Rule (Option (Bool × ℕ))
 optional_sign = option sign
 
 -- A literal with a minus is the negative number. A sign belongs to its literal, whose place is then that of the sign.
@@ -44,22 +44,22 @@ abbrev pub text_literal : Named → LiteralTree
 text_literal n = record { value = literal_value.Str n.0; at = n.1 }
 
 -- ["+" | "-"] number
-unfoldable pub number_form : Grammar LiteralTree
+unfoldable pub number_form : {Rule : Type 0 → Type 1} → GrammarOf Rule LiteralTree
 number_form = number_literal <$> optional_sign ⨟ number
 
 -- literal := text | ["+" | "-"] number
-unfoldable pub literal : Grammar LiteralTree
+unfoldable pub literal : {Rule : Type 0 → Type 1} → GrammarOf Rule LiteralTree
 literal = text_literal <$> chars ∣ number_form
 
 -- literal { "," literal }
-unfoldable pub literals : Grammar (List LiteralTree)
+unfoldable pub literals : {Rule : Type 0 → Type 1} → GrammarOf Rule (List LiteralTree)
 literals = separated comma literal
 
-abbrev pub compares : Symbol → CompareOp → Grammar CompareOp
+abbrev pub compares : {Rule : Type 0 → Type 1} → Symbol → CompareOp → GrammarOf Rule CompareOp
 compares s o = (λ _. o) <$> symbol_only s
 
 -- op := "=" | "<>" | "<" | "<=" | ">" | ">="
-unfoldable pub op : Grammar CompareOp
+unfoldable pub op : {Rule : Type 0 → Type 1} → GrammarOf Rule CompareOp
 op =
     compares symbol.Equal compare_op.Eq ∣ compares symbol.NotEqual compare_op.Ne ∣ compares symbol.Less compare_op.Lt
     ∣ compares symbol.LessEqual compare_op.Le ∣ compares symbol.Greater compare_op.Gt ∣ compares symbol.GreaterEqual compare_op.Ge
@@ -78,16 +78,16 @@ if_written None = false
 if_written (Some chosen) = chosen
 
 -- [ASC | DESC], whether it is DESC
-unfoldable pub direction : Grammar Bool
+unfoldable pub direction : {Rule : Type 0 → Type 1} → GrammarOf Rule Bool
 direction = if_written <$> option ((λ _. false) <$> word_only word.Asc ∣ (λ _. true) <$> word_only word.Desc)
 
 abbrev pub order_tree : (OrderName × ℕ) × Bool → OrderTree
 order_tree p = record { key = p.0.0; descending = p.1; at = p.0.1 }
 
 -- order := ( name | number ) [ASC | DESC]
-unfoldable pub order : Grammar OrderTree
+unfoldable pub order : {Rule : Type 0 → Type 1} → GrammarOf Rule OrderTree
 order = order_tree <$> (named_key <$> name ∣ position_key <$> number) ⨟ direction
 
 -- order { "," order }
-unfoldable pub orders : Grammar (List OrderTree)
+unfoldable pub orders : {Rule : Type 0 → Type 1} → GrammarOf Rule (List OrderTree)
 orders = separated comma order

@@ -2,9 +2,9 @@
 use Rattle.std.proofs.Common.{◌≡◌, List, [], ◌∷◌, ◌++◌, subst, Result, Ok, Err}
 use Rattle.grammar_forms.specs.Reading.{Outcome}
 use Rattle.prefsql_lexer.specs.declared.token.Token.{Token}
-use Rattle.query_reader.specs.Reads.{Reads, IsPushed}
-use Rattle.query_reader.specs.declared.cursor.Stop.{Stop}
-use Rattle.query_reader.specs.declared.cursor.Stop.TheVariants.{Fault, Memory}
+use Rattle.token_forms.specs.Reads.{Reads, IsPushed}
+use Rattle.token_forms.specs.declared.cursor.Stop.{Stop}
+use Rattle.token_forms.specs.declared.cursor.Stop.TheVariants.{Fault, Memory}
 
 pub read_ok : {A : Type 0} (o : Outcome Token A) (r : Result A Stop) (rest : List Token) (v : A) → r ≡ Ok v → Reads o r rest → o ≡ Ok (v, rest)
 read_ok o r rest v e reads = subst (λ z. Reads o z rest) e reads

@@ -2,13 +2,13 @@
 
 ghost use Rattle.std.specs.Prelude.{◌≡◌, [], ◌∷◌, List, IfOk, MatchOption, false, IsTrue, ◌↔◌};
 ghost use Rattle.grammar_forms.specs.Reading.{begins, read_token};
-ghost use Rattle.query_grammar.specs.Classes as spec;
-ghost use Rattle.query_grammar.specs.Place.{place_of};
-ghost use Rattle.query_reader.specs.Reads.{Eats, Reads};
+ghost use Rattle.token_forms.specs.Classes as spec;
+ghost use Rattle.token_forms.specs.Place.{place_of};
+ghost use Rattle.token_forms.specs.Reads.{Eats, Reads};
 
 use prefsql_lexer::{Keyword, Symbol, Token, TokenKind};
 use prefsql_values::{Memory, Text};
-use query_grammar::TokenClass;
+use crate::class::TokenClass;
 use std::alloc::Global;
 use std::marker::Model;
 
@@ -23,7 +23,7 @@ pub enum Stop {
 
 impl From<Memory> for Stop {
     ghost use Rattle.std.specs.Prelude.{◌≡◌};
-    ghost use Rattle.query_reader.specs.declared.cursor.Stop.TheVariants.{Memory};
+    ghost use Rattle.token_forms.specs.declared.cursor.Stop.TheVariants.{Memory};
 
     ghost from_gives = { λ _ e. e ≡ Memory };
 
@@ -35,7 +35,7 @@ impl From<Memory> for Stop {
 /// The tokens that are left. After a fault it stands at the first token that fits nowhere. A contract sees it as their list.
 #[derive(Drop)]
 pub struct Cursor<'a> {
-    pub(crate) alloc: Global,
+    alloc: Global,
     tokens: &'a [Token],
 }
 
@@ -83,7 +83,7 @@ impl<'a> Cursor<'a> {
         }
     }
 
-    pub(crate) fn at_symbol(&self, symbol: Symbol) -> bool
+    pub fn at_symbol(&self, symbol: Symbol) -> bool
         ensures { result ≡ begins spec.class (spec.symbol_class symbol ∷ []) self.now }
     {
         self.at(TokenClass::Symbol(symbol))
@@ -96,13 +96,13 @@ impl<'a> Cursor<'a> {
         self.at(TokenClass::Word(word))
     }
 
-    pub(crate) fn at_chars(&self) -> bool
+    pub fn at_chars(&self) -> bool
         ensures { result ≡ begins spec.class (spec.chars_class ∷ []) self.now }
     {
         self.at(TokenClass::Text)
     }
 
-    pub(crate) fn at_name(&self) -> bool
+    pub fn at_name(&self) -> bool
         ensures { result ≡ begins spec.class (spec.name_class ∷ []) self.now }
     {
         self.at(TokenClass::Name)
@@ -122,7 +122,7 @@ impl<'a> Cursor<'a> {
         Some(first)
     }
 
-    pub(crate) fn symbol(&mut self, symbol: Symbol) -> Result<(), Stop>
+    pub fn symbol(&mut self, symbol: Symbol) -> Result<(), Stop>
         ensures { Reads (read_token spec.class (spec.symbol_class symbol) (λ _. tt) self.old) result self.new }
     {
         match self.take(TokenClass::Symbol(symbol)) {
@@ -131,7 +131,7 @@ impl<'a> Cursor<'a> {
         }
     }
 
-    pub(crate) fn word(&mut self, word: Keyword) -> Result<(), Stop>
+    pub fn word(&mut self, word: Keyword) -> Result<(), Stop>
         ensures { Reads (read_token spec.class (spec.word_class word) (λ _. tt) self.old) result self.new }
     {
         match self.take(TokenClass::Word(word)) {
@@ -141,7 +141,7 @@ impl<'a> Cursor<'a> {
     }
 
     /// The place of the symbol.
-    pub(crate) fn symbol_at(&mut self, symbol: Symbol) -> Result<u32, Stop>
+    pub fn symbol_at(&mut self, symbol: Symbol) -> Result<u32, Stop>
         ensures { Reads (read_token spec.class (spec.symbol_class symbol) (λ t. t.start) self.old) result self.new }
     {
         match self.take(TokenClass::Symbol(symbol)) {
@@ -150,7 +150,7 @@ impl<'a> Cursor<'a> {
         }
     }
 
-    pub(crate) fn word_at(&mut self, word: Keyword) -> Result<u32, Stop>
+    pub fn word_at(&mut self, word: Keyword) -> Result<u32, Stop>
         ensures { Reads (read_token spec.class (spec.word_class word) (λ t. t.start) self.old) result self.new }
     {
         match self.take(TokenClass::Word(word)) {
@@ -160,19 +160,19 @@ impl<'a> Cursor<'a> {
     }
 
     /// Takes the symbol, if it comes next.
-    pub(crate) fn eat_symbol(&mut self, symbol: Symbol) -> bool
+    pub fn eat_symbol(&mut self, symbol: Symbol) -> bool
         ensures { Eats (spec.symbol_class symbol) self.old result self.new }
     {
         self.take(TokenClass::Symbol(symbol)).is_some()
     }
 
-    pub(crate) fn eat_word(&mut self, word: Keyword) -> bool
+    pub fn eat_word(&mut self, word: Keyword) -> bool
         ensures { Eats (spec.word_class word) self.old result self.new }
     {
         self.take(TokenClass::Word(word)).is_some()
     }
 
-    pub(crate) fn name(&mut self) -> Result<(Text, u32), Stop>
+    pub fn name(&mut self) -> Result<(Text, u32), Stop>
         ensures { Reads (read_token spec.class spec.name_class (λ t. (spec.text_in t.kind, t.start)) self.old) result self.new }
     {
         let alloc = self.alloc;
@@ -183,7 +183,7 @@ impl<'a> Cursor<'a> {
     }
 
     /// The text of a quoted text, and its place.
-    pub(crate) fn chars(&mut self) -> Result<(Text, u32), Stop>
+    pub fn chars(&mut self) -> Result<(Text, u32), Stop>
         ensures { Reads (read_token spec.class spec.chars_class (λ t. (spec.text_in t.kind, t.start)) self.old) result self.new }
     {
         let alloc = self.alloc;
@@ -193,7 +193,7 @@ impl<'a> Cursor<'a> {
         Ok((copied(alloc, token)?, token.start))
     }
 
-    pub(crate) fn number(&mut self) -> Result<(i64, u32), Stop>
+    pub fn number(&mut self) -> Result<(i64, u32), Stop>
         ensures { Reads (read_token spec.class spec.number_class (λ t. (spec.number_in t.kind, t.start)) self.old) result self.new }
     {
         match self.take(TokenClass::Number) {

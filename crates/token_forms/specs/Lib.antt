@@ -1,0 +1,6 @@
+pub mod Classes
+pub mod Forms
+pub mod Columns
+pub mod Phrases
+pub mod Place
+pub mod Reads
