@@ -1,0 +1,5 @@
+pub mod Counts
+pub mod Groups
+pub mod Marks
+pub mod Members
+pub mod PlaceLaws
