@@ -1,0 +1,16 @@
+pub mod Auxiliary
+pub mod Columns
+pub mod CondDepths
+pub mod Depths
+pub mod Formed
+pub mod Judgements
+pub mod Names
+pub mod Put
+pub mod Queries
+pub mod RankDepths
+pub mod Ranks
+pub mod Rivals
+pub mod Tables
+pub mod Validity
+pub mod WholeDepth
+pub mod WholeFormed
