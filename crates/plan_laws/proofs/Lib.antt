@@ -1,0 +1,10 @@
+pub mod Bounds
+pub mod Combinations
+pub mod Homes
+pub mod Joins
+pub mod Prefilter
+pub mod Sinks
+pub mod Splits
+pub mod StageLaws
+pub mod ValidPlans
+pub mod ValidReads
