@@ -1,7 +1,6 @@
 pub mod Predictive
 pub mod Written
-pub mod Counted
 pub mod Depth
+pub mod Plain
+pub mod Language
 pub mod Accepted
-pub mod Faults
-pub mod OneFault

@@ -13,7 +13,7 @@ use Rattle.query_grammar.specs.Rules.{Grammar, Rule, condition_rule, preference_
 use Rattle.token_forms.specs.Forms.{◌⨟◌, ◌⨟>◌, ◌<⨟◌, word_only, symbol_only, separated, comma, in_parens, chain}
 use Rattle.token_forms.specs.Columns.{column}
 use Rattle.query_grammar.specs.Scalars.{scalar, comparison, between, member, null_test, negated_rest, test_tree, negated_tree}
-use Rattle.token_forms.specs.Phrases.{negation}
+use Rattle.token_forms.specs.Phrases.{negation, from_items}
 use Rattle.query_tree.specs.declared.name.NameTree.{NameTree}
 use Rattle.query_tree.specs.declared.preference.SetTree.{SetTree}
 use Rattle.query_tree.specs.declared.preference.EdgeTree.{EdgeTree}
@@ -26,11 +26,11 @@ use Rattle.query_grammar.specs.Sets.{single, set, sets, edges, mark}
 use Rattle.query_grammar.specs.Preferences.{good, bad, layers, layers_tree, Unmarked, extremum, else_good, else_bad, good_tree, bad_tree, around_tree, between_tree, layered_tree, other, explicit_tree, graph, marked, base, prim, par, pref}
 use Rattle.query_grammar.specs.ReadPreferences as read
 use Rattle.query_grammar.specs.ReadPreferences.{good_set, bad_set, second_good, second_bad, second_form, otherwise, good_form, good_base, between_form, between_base, others, more_layers, with_first, sets_and_others, layers_from_sets, layers_from_others, layers_form, other_form, other_tree, graph_tree, graph_form, column_base, extremum_tree, lowest, highest, any_base, primary, primaries, pareto, cascade, preference}
-use Rattle.query_grammar.specs.Items.{list, from_items, groups}
+use Rattle.query_grammar.specs.Items.{list, groups}
 use Rattle.token_forms.specs.Phrases.{distinctness, ordering}
 use Rattle.query_grammar.specs.Trees.{query_tree}
 use Rattle.query_grammar.specs.ReadStatements.{filter, only, prefer_form, statement_form}
-use Rattle.query_grammar.specs.Statements.{prefer, statement, ended}
+use Rattle.query_grammar.specs.Statements.{prefer, statement}
 use Rattle.query_grammar.specs.Conditions.{rest, test, neg, conj, cond}
 use Rattle.query_grammar.specs.ReadConditions.{negatable, rest_form, plain_test, test_form, negated, conjuncts, conjunction, disjuncts, condition}
 
@@ -392,7 +392,3 @@ module _ (R : (A : Type 0) → Rule A → Wholes Token A) (S : (A : Type 0) → 
       let p0 : Same (both distinctness (both list (both f a3))) (both distinctness (both list (both f b3))) = seq distinctness distinctness (both list (both f a3)) (both list (both f b3)) (same distinctness) p1 in
       under query_tree (w ⨟> both distinctness (both list (both f a3))) (w ⨟> both distinctness (both list (both f b3)))
       (seq_second w w (both distinctness (both list (both f a3))) (both distinctness (both list (both f b3))) (same w) p0)
-
-  pub Same-ended : Same ended (statement_form <⨟ symbol_only symbol.Semicolon)
-  unfolding ended
-  Same-ended = seq_first statement statement_form (symbol_only symbol.Semicolon) (symbol_only symbol.Semicolon) Same-statement (same (symbol_only symbol.Semicolon))

@@ -9,11 +9,10 @@ use Rattle.query_tree.specs.declared.name.NameTree.{NameTree}
 use Rattle.query_tree.specs.declared.query.ItemTree.{ItemTree}
 use Rattle.query_tree.specs.declared.query.SelectTree.{SelectTree}
 use Rattle.query_tree.specs.declared.query.SelectTree.TheVariants as select_tree
-use Rattle.query_tree.specs.declared.query.FromTree.{FromTree}
 use Rattle.query_grammar.specs.Rules.{Grammar}
 use Rattle.token_forms.specs.Forms.{◌⨟◌, ◌⨟>◌, ◌<$>◌, ◌∣◌, Named, symbol_only, word_only, separated, comma, or_none, text_of}
 use Rattle.token_forms.specs.Columns.{column, columns}
-use Rattle.token_forms.specs.Phrases.{alias, from}
+use Rattle.token_forms.specs.Phrases.{alias}
 use Rattle.query_grammar.specs.Scalars.{level, distance}
 
 -- value := column | LEVEL "(" column ")" | DISTANCE "(" column ")"
@@ -34,10 +33,6 @@ items = separated comma item
 -- list := "*" | item { "," item }
 unfoldable pub list : Grammar SelectTree
 list = (λ _. select_tree.All) <$> symbol_only symbol.Star ∣ select_tree.Items <$> items
-
--- from { "," from }
-unfoldable pub from_items : Grammar (List FromTree)
-from_items = separated comma from
 
 -- [GROUPING column { "," column }]
 unfoldable pub groups : Grammar (List NameTree)

@@ -1,57 +1,31 @@
--- Scripts, their fronts, and the place and code of the first grammar fault. These rules are this project's own.
-use Rattle.std.specs.Prelude.{◌≡◌, ◌≤◌, ◌<◌, ℕ, ◌⊎◌, List, [], ◌∷◌, ◌++◌, length, take, drop}
-use Rattle.grammar_forms.specs.Form as form
-use Rattle.grammar_forms.specs.Form.{IsLongest, option, many}
-use Rattle.prefsql_lexer.specs.Bounds.{NestWithin}
+-- Scripts of preference statements, and the place and code of the first grammar fault. These rules are this project's own.
+use Rattle.std.specs.Prelude.{ℕ, List}
 use Rattle.prefsql_lexer.specs.declared.fault.Spot.{Spot}
 use Rattle.prefsql_lexer.specs.declared.token.Token.{Token}
-use Rattle.prefsql_lexer.specs.declared.token.Keyword.TheVariants.{Select}
 use Rattle.query_tree.specs.declared.query.QueryTree.{QueryTree}
-use Rattle.token_forms.specs.Classes.{class, word_class}
-use Rattle.query_grammar.specs.Rules.{Grammar, Rule}
-use Rattle.query_grammar.specs.Statements.{statement, ended, script, production}
-use Rattle.token_forms.specs.Place.{place_of}
-
-abbrev pub max_statements : ℕ
-max_statements = 64
+use Rattle.script_forms.specs.Scripts as script
+use Rattle.query_grammar.specs.Rules.{Grammar}
+use Rattle.query_grammar.specs.Statements.{statement, production}
 
 abbrev pub max_nesting : ℕ
 max_nesting = 64
 
 -- which tokens are a whole one of a form, with conditions and preferences in parentheses inside one another at most n deep
 abbrev pub IsWhole : ℕ → {A : Type 0} → Grammar A → List Token → A → Type 0
-IsWhole n f ts v = form.IsWhole Token Rule class production n f ts v
-
--- which tokens are a front of a form, so deep
-abbrev pub IsFront : ℕ → {A : Type 0} → Grammar A → List Token → Type 0
-IsFront n f ts = form.IsFront Token Rule class production n f ts
+IsWhole n f ts v = script.IsWhole production n f ts v
 
 -- The tokens are a script with these trees: at most 64 statements, however deep their parentheses are.
 abbrev pub IsScript : List Token → List QueryTree → Type 0
-IsScript ts trees = (length trees ≤ max_statements) × ((n : ℕ) × IsWhole n script ts trees)
+IsScript ts trees = script.IsScript production statement ts trees
 
--- A front of a script keeps the limits of number and nesting, where a statement counts from its first token on and a block from
--- its opening parenthesis on. It is statements, each with its semicolon, and then nothing or a front of one more: of one with a
--- semicolon, or of the last one.
+-- A front of a script keeps the limits of number and nesting.
 abbrev pub IsScriptFront : List Token → Type 0
-IsScriptFront ts =
-    NestWithin max_nesting 0 ts
-    × ((n : ℕ) × (xs ys : List Token) × (trees : List QueryTree) × (ts ≡ xs ++ ys) × IsWhole n (many ended) xs trees
-    × (((ys ≡ []) × (length trees ≤ max_statements)) ⊎ ((length trees < max_statements) × (IsFront n ended ys ⊎ IsFront n (option statement) ys))))
+IsScriptFront ts = script.IsScriptFront production statement max_nesting ts
 
--- as many statements as a script may have, each with its semicolon
-abbrev pub IsFull : List Token → Type 0
-IsFull ts = (n : ℕ) × (trees : List QueryTree) × (length trees ≡ max_statements) × IsWhole n (many ended) ts trees
-
--- The code of a fault between the longest front and the tokens after it: E202 at the end, E203 where the next token would begin
--- a statement too many, else E201.
+-- the code of a fault between the longest front and the tokens after it
 abbrev pub IsCode : List Token → List Token → ℕ → Type 0
-IsCode front [] code = code ≡ 202
-IsCode front (t ∷ ts) code =
-    (IsFull front × (class t ≡ word_class Select) × (code ≡ 203)) ⊎ ((IsFull front → class t ≡ word_class Select → ⊥) × (code ≡ 201))
+IsCode front rest code = script.IsCode production statement front rest code
 
 -- The tokens are no script, and the fault stands at the end of the longest front with which they begin.
 abbrev pub IsFault : List Token → ℕ → Spot → Type 0
-IsFault ts end spot =
-    ((trees : List QueryTree) → IsScript ts trees → ⊥)
-    × ((n : ℕ) × IsLongest IsScriptFront ts n × (spot.at ≡ place_of (drop n ts) end) × IsCode (take n ts) (drop n ts) spot.code)
+IsFault ts end spot = script.IsFault production statement max_nesting ts end spot

@@ -1,14 +1,13 @@
--- Statements and scripts, production by production: this project's own profile of the queries of SQL-92 (ISO/IEC 9075:1992)
+-- Statements, production by production: this project's own profile of the queries of SQL-92 (ISO/IEC 9075:1992)
 -- with the preferring clause of Preference SQL (Kießling and Köstler 2002).
-use Rattle.std.specs.Prelude.{true, false, List, [], ◌∷◌, ◌++◌, Option, Some, None}
-use Rattle.grammar_forms.specs.Form.{option, many}
+use Rattle.std.specs.Prelude.{true, false}
+use Rattle.grammar_forms.specs.Form.{option}
 use Rattle.prefsql_lexer.specs.declared.token.Keyword.TheVariants as word
-use Rattle.prefsql_lexer.specs.declared.token.Symbol.TheVariants as symbol
 use Rattle.query_tree.specs.declared.query.QueryTree.{QueryTree}
 use Rattle.query_grammar.specs.Rules.{Grammar, Rule, condition_rule, preference_rule}
-use Rattle.token_forms.specs.Forms.{◌⨟◌, ◌⨟>◌, ◌<⨟◌, ◌<$>◌, symbol_only, word_only}
-use Rattle.query_grammar.specs.Items.{list, from_items, groups}
-use Rattle.token_forms.specs.Phrases.{distinctness, ordering}
+use Rattle.token_forms.specs.Forms.{◌⨟◌, ◌⨟>◌, ◌<$>◌, word_only}
+use Rattle.query_grammar.specs.Items.{list, groups}
+use Rattle.token_forms.specs.Phrases.{distinctness, ordering, from_items}
 use Rattle.query_grammar.specs.Trees.{Preferred, query_tree}
 use Rattle.query_grammar.specs.Conditions.{cond}
 use Rattle.query_grammar.specs.Preferences.{pref}
@@ -22,18 +21,6 @@ unfoldable pub statement : Grammar QueryTree
 statement =
     query_tree <$> word_only word.Select ⨟> distinctness ⨟ list ⨟ (word_only word.From ⨟> from_items)
     ⨟ option (word_only word.Where ⨟> cond false) ⨟ option prefer ⨟ ordering
-
--- statement ";"
-unfoldable pub ended : Grammar QueryTree
-ended = statement <⨟ symbol_only symbol.Semicolon
-
-abbrev pub with_last : List QueryTree × Option QueryTree → List QueryTree
-with_last (trees, None) = trees
-with_last (trees, Some last) = trees ++ last ∷ []
-
--- script := { statement ";" } [ statement ]
-unfoldable pub script : Grammar (List QueryTree)
-script = with_last <$> many ended ⨟ option statement
 
 -- the right side of each production that nests
 abbrev pub production : (A : Type 0) → Rule A → Grammar A

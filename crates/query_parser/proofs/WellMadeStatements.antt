@@ -30,16 +30,19 @@ use Rattle.token_forms.specs.Classes.{class}
 use Rattle.query_grammar.specs.Rules.{Grammar, Rule, condition_rule, preference_rule}
 use Rattle.token_forms.specs.Forms.{Named, name, number, word_only, or_none, text_of, ◌⨟>◌}
 use Rattle.token_forms.specs.Columns.{column, columns, direction, order, orders, named_key, position_key, order_tree}
-use Rattle.token_forms.specs.Phrases.{alias, from, from_tree, distinctness, ordering}
-use Rattle.query_grammar.specs.Items.{value, item, item_tree, items, list, from_items, groups}
+use Rattle.token_forms.specs.Phrases.{alias, from, from_tree, distinctness, ordering, from_items}
+use Rattle.query_grammar.specs.Items.{value, item, item_tree, items, list, groups}
 use Rattle.query_grammar.specs.Trees.{Preferred, query_tree}
 use Rattle.query_grammar.specs.Conditions.{cond}
 use Rattle.query_grammar.specs.Preferences.{pref, par, prim}
-use Rattle.query_grammar.specs.Statements.{prefer, statement, ended, with_last, script, production}
+use Rattle.query_grammar.specs.Statements.{prefer, statement, production}
+use Rattle.script_forms.specs.Scripts.{ended_by, script_of, with_last}
+use Rattle.script_forms.proofs.Accepted.{script_keeps}
+use Rattle.query_grammar.proofs.Language.{language}
 use Rattle.query_grammar.specs.Scripts.{IsWhole, IsScript}
 use Rattle.token_forms.proofs.Depth.{rises, falls}
 use Rattle.token_forms.proofs.Depth.{StaysWithin, NestWithin-stays}
-use Rattle.query_grammar.proofs.Depth.{production_keeps, script_keeps}
+use Rattle.query_grammar.proofs.Depth.{production_keeps}
 use Rattle.query_parser.proofs.Parts.{Part, Parts, moved, At, skip, name_part, number_part, stands_filled, parts_filled, separated_parts, first_byte, behind, Fine}
 use Rattle.query_parser.proofs.WellMadeColumns.{column_place, column_part, level_part, distance_part}
 use Rattle.query_parser.proofs.WellMadeConditions.{Good, Fits, by_itself, cond_part, pref_part}
@@ -326,11 +329,10 @@ module _ (last : ℕ) (small : last < 2 ^ 32) where
 
   -- ---- scripts
 
-  ended_good : (lo hi : ℕ) (v : QueryTree) → In ended 0 lo hi v → IsQuery v
-  unfolding ended
+  ended_good : (lo hi : ℕ) (v : QueryTree) → In (ended_by statement) 0 lo hi v → IsQuery v
   ended_good lo hi v w = subst IsQuery (sym w.2) (statement_part lo w.1.0 w.0.0 w.1.1).good
 
-  row_good : (lo hi : ℕ) (vs : List QueryTree) → In (many ended) 0 lo hi vs → All IsQuery vs
+  row_good : (lo hi : ℕ) (vs : List QueryTree) → In (many (ended_by statement)) 0 lo hi vs → All IsQuery vs
   row_good lo hi [] w = All-nil IsQuery
   row_good lo hi (v ∷ vs) w = All-cons IsQuery v vs (ended_good lo w.0 v w.1) (row_good w.0 hi vs w.2)
 
@@ -342,8 +344,7 @@ module _ (last : ℕ) (small : last < 2 ^ 32) where
   with_last_good lo hi vs None all w = all
   with_last_good lo hi vs (Some v) all w = all_last vs v all (statement_part lo hi v w).good
 
-  script_good : (lo hi : ℕ) (trees : List QueryTree) → In script 0 lo hi trees → AreWellMade trees
-  unfolding script
+  script_good : (lo hi : ℕ) (trees : List QueryTree) → In (script_of statement) 0 lo hi trees → AreWellMade trees
   script_good lo hi trees w = subst (All IsQuery) (sym w.2) (with_last_good w.1.0 hi w.0.0 w.0.1 (row_good lo w.1.0 w.0.0 w.1.1) w.1.2)
 
   -- ---- from the tokens
@@ -375,8 +376,8 @@ module _ (last : ℕ) (small : last < 2 ^ 32) where
       let none : d ≡ d + 0 = omega arith in
       pref_part last small d lo hi v (span_of Token Rule class rises falls 64 first_byte behind last Fine (whole n) (balanced n) Good (rule_good n) pref d 0 d (production_keeps A preference_rule).0 none lo ts hi v le run w)
 
-  whole_good : (n : ℕ) (ts : List Token) (trees : List QueryTree) → RunsTo 0 0 ts last → IsWhole n script ts trees → AreWellMade trees
-  whole_good n ts trees run w = script_good 0 last trees (span_of Token Rule class rises falls 64 first_byte behind last Fine (whole n) (balanced n) Good (rule_good n) script 0 0 0 script_keeps.0 refl 0 ts last trees (omega arith) run w)
+  whole_good : (n : ℕ) (ts : List Token) (trees : List QueryTree) → RunsTo 0 0 ts last → IsWhole n (script_of statement) ts trees → AreWellMade trees
+  whole_good n ts trees run w = script_good 0 last trees (span_of Token Rule class rises falls 64 first_byte behind last Fine (whole n) (balanced n) Good (rule_good n) (script_of statement) 0 0 0 (script_keeps language).0 refl 0 ts last trees (omega arith) run w)
 
 -- The trees of a script whose tokens keep the limits are well made.
 pub trees_well_made : (ts : List Token) (end : ℕ) (trees : List QueryTree) → end < 2 ^ 32 → AreTokensOf 64 end ts → IsScript ts trees → AreWellMade trees
@@ -398,8 +399,7 @@ statement_some n ts v w =
     let t = x.3 in
     omega (arith, ap length x.2, length-append x.0 x.1, ap length t.1)
 
-ended_some : (n : ℕ) (ts : List Token) (v : QueryTree) → IsWhole n ended ts v → 1 ≤ length ts
-unfolding ended
+ended_some : (n : ℕ) (ts : List Token) (v : QueryTree) → IsWhole n (ended_by statement) ts v → 1 ≤ length ts
 ended_some n ts v w =
     let x = w.1 in
     let k = statement_some n x.0 w.0.0 x.3 in
@@ -410,11 +410,10 @@ last_few n ts vs None w = omega arith
 last_few n ts vs (Some v) w = let k = statement_some n ts v w in omega (arith, k, length-append vs (v ∷ []))
 
 pub trees_few : (ts : List Token) (trees : List QueryTree) → IsScript ts trees → length trees ≤ length ts
-unfolding script
 trees_few ts trees w =
     let n = w.1.0 in
     let s = w.1.1 in
     let x = s.1 in
-    let a = several_few (λ us v. IsWhole n ended us v) (ended_some n) x.0 s.0.0 x.3 in
+    let a = several_few (λ us v. IsWhole n (ended_by statement) us v) (ended_some n) x.0 s.0.0 x.3 in
     let b = last_few n x.1 s.0.0 s.0.1 x.4 in
     omega (arith, a, b, ap length s.2, ap length x.2, length-append x.0 x.1)

@@ -1,23 +1,24 @@
 //! Statements and scripts.
 
 ghost use Rattle.std.specs.Prelude.{◌≡◌, Ok};
-ghost use Rattle.token_forms.specs.Columns as columns;
-ghost use Rattle.token_forms.specs.Phrases as phrases;
 ghost use Rattle.query_grammar.specs.Items as items;
 ghost use Rattle.query_grammar.specs.ReadStatements as statements;
 ghost use Rattle.grammar_forms.specs.Form.{option};
 ghost use Rattle.query_grammar.specs.Trees.{query_tree};
 ghost use Rattle.query_grammar.specs.Outcome.{outcome};
+ghost use Rattle.token_forms.specs.Phrases as phrases;
 ghost use Rattle.token_forms.specs.Reads.{Reads};
+ghost use Rattle.script_forms.specs.Counted.{counted};
 
 use crate::parser::Parser;
+use condition_reader::ConditionReader;
+use preference_reader::PreferenceReader;
 use prefsql_lexer::{Keyword, Symbol};
-use prefsql_values::{List, Text};
+use prefsql_values::List;
 use query_tree::{
-    CondTree, FromTree, ItemTree, NameTree, OrderName, OrderTree, PrefTree, QueryTree, ScalarTree,
-    SelectTree,
+    CondTree, FromTree, ItemTree, NameTree, OrderTree, PrefTree, QueryTree, ScalarTree, SelectTree,
 };
-use token_forms::{both, pushed, Cursor, Stop};
+use token_forms::{Cursor, Stop, both, pushed};
 
 const MAX_STATEMENTS: usize = 64;
 
@@ -25,39 +26,30 @@ const MAX_STATEMENTS: usize = 64;
 type Preferred = (PrefTree, (List<NameTree>, Option<CondTree>));
 
 impl Parser {
-    /// `[[AS] name]`
-    #[tactic(auto, unfolding(token_forms::specs::Phrases::alias), using(grammar_forms::proofs::Sets::begins_more))]
-    fn alias(self, tokens: &mut Cursor<'_>) -> Result<Option<(Text, u32)>, Stop>
-        ensures { Reads (outcome self.depth phrases.alias tokens.old) result tokens.new }
-    {
-        if tokens.eat_word(Keyword::As) {
-            return Ok(Some(tokens.name()?));
-        }
-        if tokens.at_name() {
-            return Ok(Some(tokens.name()?));
-        }
-        Ok(None)
-    }
-
-    #[tactic(auto, unfolding(query_grammar::specs::Items::value, query_grammar::specs::Scalars::level, query_grammar::specs::Scalars::distance))]
+    #[tactic(auto, unfolding(query_grammar::specs::Items::value, query_grammar::specs::Scalars::level, query_grammar::specs::Scalars::distance), using(query_grammar::proofs::Plain::plain_column))]
     fn item_value(self, tokens: &mut Cursor<'_>) -> Result<ScalarTree, Stop>
         ensures { Reads (outcome self.depth items.value tokens.old) result tokens.new }
     {
+        let qualities = ConditionReader {
+            alloc: self.alloc,
+            depth: self.depth,
+            qualities: true,
+        };
         if tokens.at_word(Keyword::Level) {
-            return self.level(tokens);
+            return qualities.level(tokens);
         }
         if tokens.at_word(Keyword::Distance) {
-            return self.distance(tokens);
+            return qualities.distance(tokens);
         }
-        Ok(ScalarTree::Column(self.column(tokens)?))
+        Ok(ScalarTree::Column(tokens.column()?))
     }
 
-    #[tactic(auto, unfolding(query_grammar::specs::Items::item))]
+    #[tactic(auto, unfolding(query_grammar::specs::Items::item), using(query_grammar::proofs::Plain::plain_alias))]
     fn item(self, tokens: &mut Cursor<'_>) -> Result<ItemTree, Stop>
         ensures { Reads (outcome self.depth items.item tokens.old) result tokens.new }
     {
         let value = self.item_value(tokens)?;
-        let (value, alias) = both(value, self.alias(tokens))?;
+        let (value, alias) = both(value, tokens.alias())?;
         let name = match alias {
             None => None,
             Some((text, _)) => Some(text),
@@ -86,110 +78,27 @@ impl Parser {
         Ok(SelectTree::Items(self.items(tokens)?))
     }
 
-    #[tactic(auto, unfolding(token_forms::specs::Phrases::from))]
-    fn from_item(self, tokens: &mut Cursor<'_>) -> Result<FromTree, Stop>
-        ensures { Reads (outcome self.depth phrases.from tokens.old) result tokens.new }
-    {
-        let (table, at) = tokens.name()?;
-        let (table, alias) = both(table, self.alias(tokens))?;
-        match alias {
-            None => Ok(FromTree {
-                table,
-                name: None,
-                at,
-                name_at: at,
-            }),
-            Some((name, name_at)) => Ok(FromTree {
-                table,
-                name: Some(name),
-                at,
-                name_at,
-            }),
-        }
-    }
-
-    #[tactic(auto, unfolding(query_grammar::specs::Items::from_items))]
-    fn from_items(self, tokens: &mut Cursor<'_>) -> Result<List<FromTree>, Stop>
-        ensures { Reads (outcome self.depth items.from_items tokens.old) result tokens.new }
-    {
-        let mut found = pushed(List::new(self.alloc), self.from_item(tokens))?;
-        'more: while tokens.eat_symbol(Symbol::Comma) {
-            found = pushed(found, self.from_item(tokens))?;
-        }
-        Ok(found)
-    }
-
-    /// Whether DESC comes next, or else perhaps ASC.
-    #[tactic(auto, unfolding(token_forms::specs::Columns::direction), using(grammar_forms::proofs::Sets::begins_more))]
-    fn direction(self, tokens: &mut Cursor<'_>) -> bool
-        ensures { outcome self.depth columns.direction tokens.old ≡ Ok (result, tokens.new) }
-    {
-        if tokens.eat_word(Keyword::Asc) {
-            return false;
-        }
-        tokens.eat_word(Keyword::Desc)
-    }
-
-    #[tactic(auto, unfolding(token_forms::specs::Columns::order))]
-    fn order_item(self, tokens: &mut Cursor<'_>) -> Result<OrderTree, Stop>
-        ensures { Reads (outcome self.depth columns.order tokens.old) result tokens.new }
-    {
-        if tokens.at_name() {
-            let (name, at) = tokens.name()?;
-            let descending = self.direction(tokens);
-            return Ok(OrderTree {
-                key: OrderName::Name(name),
-                descending,
-                at,
-            });
-        }
-        let (number, at) = tokens.number()?;
-        let descending = self.direction(tokens);
-        Ok(OrderTree {
-            key: OrderName::Position(number),
-            descending,
-            at,
-        })
-    }
-
-    #[tactic(auto, unfolding(token_forms::specs::Columns::orders))]
-    fn order_items(self, tokens: &mut Cursor<'_>) -> Result<List<OrderTree>, Stop>
-        ensures { Reads (outcome self.depth columns.orders tokens.old) result tokens.new }
-    {
-        let mut found = pushed(List::new(self.alloc), self.order_item(tokens))?;
-        'more: while tokens.eat_symbol(Symbol::Comma) {
-            found = pushed(found, self.order_item(tokens))?;
-        }
-        Ok(found)
-    }
-
-    #[tactic(auto, unfolding(token_forms::specs::Columns::columns))]
-    fn columns(self, tokens: &mut Cursor<'_>) -> Result<List<NameTree>, Stop>
-        ensures { Reads (outcome self.depth columns.columns tokens.old) result tokens.new }
-    {
-        let mut found = pushed(List::new(self.alloc), self.column(tokens))?;
-        'more: while tokens.eat_symbol(Symbol::Comma) {
-            found = pushed(found, self.column(tokens))?;
-        }
-        Ok(found)
-    }
-
     #[tactic(auto, unfolding(query_grammar::specs::ReadStatements::filter))]
     fn filter(self, tokens: &mut Cursor<'_>) -> Result<Option<CondTree>, Stop>
         ensures { Reads (outcome self.depth statements.filter tokens.old) result tokens.new }
     {
         if tokens.eat_word(Keyword::Where) {
-            return Ok(Some(self.condition(tokens, false)?));
+            let conditions = ConditionReader {
+                alloc: self.alloc,
+                depth: self.depth,
+                qualities: false,
+            };
+            return Ok(Some(conditions.condition(tokens)?));
         }
         Ok(None)
     }
 
-    #[tactic(auto, unfolding(query_grammar::specs::Items::groups))]
+    #[tactic(auto, unfolding(query_grammar::specs::Items::groups), using(query_grammar::proofs::Plain::plain_columns))]
     fn groups(self, tokens: &mut Cursor<'_>) -> Result<List<NameTree>, Stop>
         ensures { Reads (outcome self.depth items.groups tokens.old) result tokens.new }
     {
         if tokens.eat_word(Keyword::Grouping) {
-            return self.columns(tokens);
+            return tokens.columns();
         }
         Ok(List::new(self.alloc))
     }
@@ -200,20 +109,14 @@ impl Parser {
     {
         if tokens.eat_word(Keyword::But) {
             tokens.word(Keyword::Only)?;
-            return Ok(Some(self.condition(tokens, true)?));
+            let conditions = ConditionReader {
+                alloc: self.alloc,
+                depth: self.depth,
+                qualities: true,
+            };
+            return Ok(Some(conditions.condition(tokens)?));
         }
         Ok(None)
-    }
-
-    #[tactic(auto, unfolding(token_forms::specs::Phrases::ordering))]
-    fn ordering(self, tokens: &mut Cursor<'_>) -> Result<List<OrderTree>, Stop>
-        ensures { Reads (outcome self.depth phrases.ordering tokens.old) result tokens.new }
-    {
-        if tokens.eat_word(Keyword::Order) {
-            tokens.word(Keyword::By)?;
-            return self.order_items(tokens);
-        }
-        Ok(List::new(self.alloc))
     }
 
     #[tactic(auto, unfolding(query_grammar::specs::ReadStatements::prefer_form))]
@@ -221,7 +124,11 @@ impl Parser {
         ensures { Reads (outcome self.depth statements.prefer_form tokens.old) result tokens.new }
     {
         tokens.word(Keyword::Preferring)?;
-        let preference = self.preference(tokens)?;
+        let preferences = PreferenceReader {
+            alloc: self.alloc,
+            depth: self.depth,
+        };
+        let preference = preferences.preference(tokens)?;
         let (preference, groups) = both(preference, self.groups(tokens))?;
         let ((preference, groups), only) = both((preference, groups), self.only(tokens))?;
         Ok((preference, (groups, only)))
@@ -237,11 +144,25 @@ impl Parser {
         Ok(None)
     }
 
-    #[tactic(auto, unfolding(token_forms::specs::Phrases::distinctness))]
+    #[tactic(auto, using(query_grammar::proofs::Plain::plain_distinctness))]
     fn distinctness(self, tokens: &mut Cursor<'_>) -> bool
         ensures { outcome self.depth phrases.distinctness tokens.old ≡ Ok (result, tokens.new) }
     {
-        tokens.eat_word(Keyword::Distinct)
+        tokens.distinctness()
+    }
+
+    #[tactic(auto, using(query_grammar::proofs::Plain::plain_from_items))]
+    fn from_items(self, tokens: &mut Cursor<'_>) -> Result<List<FromTree>, Stop>
+        ensures { Reads (outcome self.depth phrases.from_items tokens.old) result tokens.new }
+    {
+        tokens.from_items()
+    }
+
+    #[tactic(auto, using(query_grammar::proofs::Plain::plain_ordering))]
+    fn ordering(self, tokens: &mut Cursor<'_>) -> Result<List<OrderTree>, Stop>
+        ensures { Reads (outcome self.depth phrases.ordering tokens.old) result tokens.new }
+    {
+        tokens.ordering()
     }
 
     #[tactic(auto, unfolding(query_grammar::specs::ReadStatements::statement_form, query_grammar::specs::ReadStatements::prefer_form))]
@@ -299,7 +220,7 @@ impl Parser {
 
     /// The statements, and whether these are so many that no more may follow.
     pub fn script(self, tokens: &mut Cursor<'_>) -> Result<(List<QueryTree>, bool), Stop>
-        ensures { Reads (outcome self.depth (statements.counted 64) tokens.old) result tokens.new }
+        ensures { Reads (outcome self.depth (counted statements.statement_form 64) tokens.old) result tokens.new }
     {
         let mut found = List::new(self.alloc);
         'more: for _turn in 0..MAX_STATEMENTS {

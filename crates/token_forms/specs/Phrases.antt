@@ -4,7 +4,7 @@ use Rattle.grammar_forms.specs.Form.{option}
 use Rattle.prefsql_lexer.specs.declared.token.Keyword.TheVariants as word
 use Rattle.query_tree.specs.declared.query.FromTree.{FromTree}
 use Rattle.query_tree.specs.declared.query.OrderTree.{OrderTree}
-use Rattle.token_forms.specs.Forms.{GrammarOf, ◌⨟◌, ◌⨟>◌, ◌<$>◌, Named, name, word_only, present, or_none}
+use Rattle.token_forms.specs.Forms.{GrammarOf, ◌⨟◌, ◌⨟>◌, ◌<$>◌, Named, name, word_only, separated, comma, present, or_none}
 use Rattle.token_forms.specs.Columns.{orders}
 
 -- [[AS] name]
@@ -19,6 +19,10 @@ from_tree (n, Some m) = record { table = n.0; name = Some m.0; at = n.1; name_at
 -- from := name [[AS] name]
 unfoldable pub from : {Rule : Type 0 → Type 1} → GrammarOf Rule FromTree
 from = from_tree <$> name ⨟ alias
+
+-- from { "," from }
+unfoldable pub from_items : {Rule : Type 0 → Type 1} → GrammarOf Rule (List FromTree)
+from_items = separated comma from
 
 -- [DISTINCT]
 unfoldable pub distinctness : {Rule : Type 0 → Type 1} → GrammarOf Rule Bool

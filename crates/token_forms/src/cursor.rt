@@ -6,9 +6,9 @@ ghost use Rattle.token_forms.specs.Classes as spec;
 ghost use Rattle.token_forms.specs.Place.{place_of};
 ghost use Rattle.token_forms.specs.Reads.{Eats, Reads};
 
+use crate::class::TokenClass;
 use prefsql_lexer::{Keyword, Symbol, Token, TokenKind};
 use prefsql_values::{Memory, Text};
-use crate::class::TokenClass;
 use std::alloc::Global;
 use std::marker::Model;
 
@@ -35,7 +35,7 @@ impl From<Memory> for Stop {
 /// The tokens that are left. After a fault it stands at the first token that fits nowhere. A contract sees it as their list.
 #[derive(Drop)]
 pub struct Cursor<'a> {
-    alloc: Global,
+    pub(crate) alloc: Global,
     tokens: &'a [Token],
 }
 
@@ -83,6 +83,7 @@ impl<'a> Cursor<'a> {
         }
     }
 
+    /// Whether the next token is this symbol.
     pub fn at_symbol(&self, symbol: Symbol) -> bool
         ensures { result ≡ begins spec.class (spec.symbol_class symbol ∷ []) self.now }
     {
@@ -96,12 +97,14 @@ impl<'a> Cursor<'a> {
         self.at(TokenClass::Word(word))
     }
 
+    /// Whether the next token is a text in quotes.
     pub fn at_chars(&self) -> bool
         ensures { result ≡ begins spec.class (spec.chars_class ∷ []) self.now }
     {
         self.at(TokenClass::Text)
     }
 
+    /// Whether the next token is a name: an identifier that is no reserved word.
     pub fn at_name(&self) -> bool
         ensures { result ≡ begins spec.class (spec.name_class ∷ []) self.now }
     {
@@ -122,6 +125,7 @@ impl<'a> Cursor<'a> {
         Some(first)
     }
 
+    /// Takes the symbol. `Stop::Fault` where another token comes next, or none.
     pub fn symbol(&mut self, symbol: Symbol) -> Result<(), Stop>
         ensures { Reads (read_token spec.class (spec.symbol_class symbol) (λ _. tt) self.old) result self.new }
     {
@@ -131,6 +135,7 @@ impl<'a> Cursor<'a> {
         }
     }
 
+    /// Takes the reserved word. `Stop::Fault` where another token comes next, or none.
     pub fn word(&mut self, word: Keyword) -> Result<(), Stop>
         ensures { Reads (read_token spec.class (spec.word_class word) (λ _. tt) self.old) result self.new }
     {
@@ -150,6 +155,7 @@ impl<'a> Cursor<'a> {
         }
     }
 
+    /// The place of the reserved word, which is taken.
     pub fn word_at(&mut self, word: Keyword) -> Result<u32, Stop>
         ensures { Reads (read_token spec.class (spec.word_class word) (λ t. t.start) self.old) result self.new }
     {
@@ -166,12 +172,14 @@ impl<'a> Cursor<'a> {
         self.take(TokenClass::Symbol(symbol)).is_some()
     }
 
+    /// Takes the reserved word, if it comes next.
     pub fn eat_word(&mut self, word: Keyword) -> bool
         ensures { Eats (spec.word_class word) self.old result self.new }
     {
         self.take(TokenClass::Word(word)).is_some()
     }
 
+    /// The text of a name, and its place.
     pub fn name(&mut self) -> Result<(Text, u32), Stop>
         ensures { Reads (read_token spec.class spec.name_class (λ t. (spec.text_in t.kind, t.start)) self.old) result self.new }
     {
@@ -193,6 +201,7 @@ impl<'a> Cursor<'a> {
         Ok((copied(alloc, token)?, token.start))
     }
 
+    /// The value of a number without a sign, and its place.
     pub fn number(&mut self) -> Result<(i64, u32), Stop>
         ensures { Reads (read_token spec.class spec.number_class (λ t. (spec.number_in t.kind, t.start)) self.old) result self.new }
     {

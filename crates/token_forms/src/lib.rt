@@ -3,9 +3,11 @@
 #![tactic(auto)]
 
 mod class;
+mod columns;
 mod cursor;
 mod held;
 pub mod laws;
+mod phrases;
 
 pub use class::TokenClass;
 pub use cursor::{Cursor, Stop};

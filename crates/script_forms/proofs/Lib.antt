@@ -1,0 +1,6 @@
+pub mod Language
+pub mod CountedScripts
+pub mod Accepted
+pub mod Faults
+pub mod OneFault
+pub mod Statements
