@@ -1,0 +1,4 @@
+pub mod PassedFilters
+pub mod PlanReads
+pub mod Reduced
+pub mod StagePlans
