@@ -1,0 +1,10 @@
+pub mod CondShown
+pub mod Codes
+pub mod OwnReads
+pub mod Pushes
+pub mod Rewritable
+pub mod TermReads
+pub mod UsedPlaces
+pub mod UsedReads
+pub mod Views
+pub mod Widths
