@@ -204,5 +204,8 @@ module _ (tables : Tables) (block : Block) (conjuncts : List Conjunct) (pre : �
         ap (λ k. map of_rows (combos_of (take k counts))) (sym (length-counts tables block)) ∙ ap (λ limits. map of_rows (combos_of limits)) (take-length counts) in
         found-joined tables block table_plan (at_join block conjuncts) own_test is (joins_of block) (omega (arith, some))
         ∙ (λ j. record { first = 0; combos = filter (asked_upto own_test joins_test (count j)) (combos_upto counts (count j)) })
-        ∙ (λ j. record { first = 0; combos = (ap (filter (asked_upto own_test joins_test n)) whole
-        ∙ filter_same (asked_upto own_test joins_test n) (λ c. all_hold block conjuncts (seen_from tables block 0 c) && all_pass c) (combinations tables block.from) (λ c there. asked_is c)) j })
+        ∙ (λ j. record {
+          first = 0;
+          combos = (ap (filter (asked_upto own_test joins_test n)) whole
+              ∙ filter_same (asked_upto own_test joins_test n) (λ c. all_hold block conjuncts (seen_from tables block 0 c) && all_pass c) (combinations tables block.from) (λ c there. asked_is c)) j;
+        })

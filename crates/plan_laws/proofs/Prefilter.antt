@@ -186,7 +186,7 @@ module _ (tables : Tables) (block : Block) where
           let row_small : row < get_or (row_counts tables block.from) t 0 = omega (arith, within) in
           let in_scan = subst (λ (c : Combo). Among (scan_rows t) c) (sym found.2) in_q in
           let both = and_parts (is_same_group (table_groups block t) (seen_from tables block t (single row)) (seen_from tables block t (row_at x t))) ((order_of left).better (seen_from tables block t (single row)) (seen_from tables block t (row_at x t)))
-              (subst (λ (c : Combo). on (seen_from tables block t) ((grouped_order (table_groups block t) left).better) c (row_at x t) ≡ true) (sym found.2) better) in
+          (subst (λ (c : Combo). on (seen_from tables block t) ((grouped_order (table_groups block t) left).better) c (row_at x t) ≡ true) (sym found.2) better) in
           unbettered_at better_by low_combos x unbettered (of_rows (set x.rows t row))
           (other_there x in_x t row t_small in_scan row_small both.0)
           (and_from _ _ (other_group x in_x t row t_small in_scan row_small both.0) (other_better x in_x t row t_small in_scan row_small both.0 term left is both.1)))

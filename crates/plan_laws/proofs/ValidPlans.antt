@@ -69,8 +69,7 @@ once_numbered [] k n is = tt
 once_numbered (l ∷ ls) k zero is = absurd (cc)
 once_numbered (l ∷ ls) k (suc n) is =
     let first : l.number ≡ k = cc in
-    let rest : map (λ (m : Leaf). m.number) ls ≡ range_with_len (k + 1) n = cc in
-    (
+    let rest : map (λ (m : Leaf). m.number) ls ≡ range_with_len (k + 1) n = cc in (
       λ there. let more = numbers_rise ls (k + 1) n rest l (among_from_Contains ls l there) in omega (arith, first, more),
       once_numbered ls (k + 1) n rest,
     )
