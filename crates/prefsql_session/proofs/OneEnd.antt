@@ -7,7 +7,6 @@ use Rattle.prefsql_lexer.specs.declared.fault.Spot.{Spot}
 use Rattle.prefsql_lexer.specs.declared.token.Token.{Token}
 use Rattle.prefsql_tables.specs.Table.{Tables}
 use Rattle.prefsql_session.specs.declared.command.Task.{Task}
-use Rattle.prefsql_session.specs.declared.command.Task.TheVariants.{Answer}
 use Rattle.query_grammar.proofs.Accepted.{one_list}
 use Rattle.token_forms.specs.Place.{place_of}
 use Rattle.query_grammar.specs.Scripts.{IsCode, IsFault, IsScript, IsScriptFront}
@@ -81,13 +80,13 @@ module _ (tables : Tables) (text : List ℕ) where
 -- ---- by task
 
 one_fault : (task : Task) (tables : Tables) (text : List ℕ) (one other : Spot) → HasFault task tables text one → HasFault task tables text other → one ≡ other
-one_fault Answer tables text one other p q = one_query_fault tables text one other p q
+one_fault task tables text one other p q = one_query_fault tables text one other p q
 
 fault_or_work : (task : Task) (tables : Tables) (text : List ℕ) (spot : Spot) (work : Work) → HasFault task tables text spot → IsWork task tables text work → ⊥
-fault_or_work Answer tables text spot work p q = fault_or_blocks tables text spot q.0 p q.1
+fault_or_work task tables text spot work p q = fault_or_blocks tables text spot q.0 p q.1
 
 one_work : (task : Task) (tables : Tables) (text : List ℕ) (one other : Work) → IsWork task tables text one → IsWork task tables text other → one ≡ other
-one_work Answer tables text one other p q = p.2 ∙ ap (λ blocks. Statements Answer tables blocks) (one_asked tables text p.0 q.0 p.1 q.1) ∙ sym q.2
+one_work task tables text one other p q = p.2 ∙ ap (λ blocks. Statements task tables blocks) (one_asked tables text p.0 q.0 p.1 q.1) ∙ sym q.2
 
 module _ (task : Task) (tables : Tables) (text : List ℕ) where
   script_fault : (one other : Spot) → IsScriptFault task tables text one → IsScriptFault task tables text other → one ≡ other

@@ -143,6 +143,15 @@ pub refused_name : (files : Option Files) (tables : Tables) (word : TableWord) (
 refused_name files tables word name o fault is place same e =
     let among = found_among tables word name o true is place same in rw among (sym e)
 
+-- a table that was opened has a new name
+pub opened_name : (files : Option Files) (tables : Tables) (word : TableWord) (name : List ℕ) (table : TableData)
+    → MayGive (table_stage files (table_names tables) word) table → name ≡ word.name → Contains (table_names tables) name → ⊥
+opened_name files tables word name table gives same has =
+    let decides = name_found (table_names tables) word.name in
+    let new : is_among (table_names tables) word.name ≡ false =
+    not_among word.name (is_among (table_names tables) word.name) (and_then (file_stage files word.path) (table_of_bytes word.name)) table gives in
+    false≢true (sym new ∙ decides.1 (subst (Contains (table_names tables)) same has))
+
 -- a new name
 pub new_name : (files : Option Files) (tables : Tables) (word : TableWord) (name : List ℕ) (o : Option ℕ) → is_some o ≡ false
     → IsPlaceAmong (table_names tables) name o → name ≡ word.name → table_stage files (table_names tables) word ≡ and_then (file_stage files word.path) (table_of_bytes word.name)

@@ -28,7 +28,6 @@ use Rattle.prefsql_session.specs.declared.command.Command.{Command}
 use Rattle.prefsql_session.specs.declared.command.Command.TheVariants.{OnScript}
 use Rattle.prefsql_session.specs.declared.command.TableWord.{TableWord}
 use Rattle.prefsql_session.specs.declared.command.Task.{Task}
-use Rattle.prefsql_session.specs.declared.command.Task.TheVariants.{Answer}
 use Rattle.prefsql_session.specs.declared.fault.Fault.{Fault}
 use Rattle.prefsql_session.specs.declared.fault.Fault.TheVariants.{Table, Script}
 use Rattle.prefsql_session.specs.declared.fault.Stop.{Stop}
@@ -67,7 +66,7 @@ unread task tables script limit (Refused fault) e is =
 
 -- a script that was read
 pub within : (task : Task) (limit : ℕ) (items text : List ℕ) → limit ≡ script_limit task → text ≡ items → length items ≤ limit → length text ≤ 1048576
-within Answer limit items text e same short =
+within task limit items text e same short =
     let long : length text ≡ length items = ap length same in omega (arith, e, long, short)
 
 -- the script that is told is the text
@@ -76,38 +75,38 @@ told_text : (limit : ℕ) (script : Option (List ℕ)) (items text : List ℕ) �
 told_text limit None items text same is = tt
 told_text limit (Some all) items text same is = is.1 ∙ sym same
 
-query_asked : (tables : Tables) (script : Option (List ℕ)) (text : List ℕ) (blocks : List Block) → length text ≤ 1048576 → IfSome script (λ all. all ≡ text)
-    → AsksFor tables text blocks → Ends Answer tables script (Ok (Statements Answer tables blocks))
-query_asked tables None text blocks short same asks = (untold, refl, tt)
-query_asked tables (Some all) text blocks short same asks = (
-  ready (Statements Answer tables blocks),
-  subst (λ (t : List ℕ). (length t ≤ 1048576) × ((bs : List Block) × AsksFor tables t bs × (Statements Answer tables blocks ≡ Statements Answer tables bs))) (sym same)
+query_asked : (task : Task) (tables : Tables) (script : Option (List ℕ)) (text : List ℕ) (blocks : List Block) → length text ≤ 1048576 → IfSome script (λ all. all ≡ text)
+    → AsksFor tables text blocks → Ends task tables script (Ok (Statements task tables blocks))
+query_asked task tables None text blocks short same asks = (untold, refl, tt)
+query_asked task tables (Some all) text blocks short same asks = (
+  ready (Statements task tables blocks),
+  subst (λ (t : List ℕ). (length t ≤ 1048576) × ((bs : List Block) × AsksFor tables t bs × (Statements task tables blocks ≡ Statements task tables bs))) (sym same)
       (short, (blocks, asks, refl)),
   refl,
 )
 
-query_stopped : (tables : Tables) (script : Option (List ℕ)) (text : List ℕ) (stop : Stop) → length text ≤ 1048576 → IfSome script (λ all. all ≡ text)
-    → Asks tables text (Err stop) → Ends Answer tables script (Err stop)
-query_stopped tables script text Usage short same is = absurd is
-query_stopped tables script text ReadFault short same is = absurd is
-query_stopped tables script text ShelfFault short same is = absurd is
-query_stopped tables script text Memory short same is = tt
-query_stopped tables script text (Refused (Table name spot)) short same is = absurd is
-query_stopped tables None text (Refused (Script spot)) short same is = (untold, refl, tt)
-query_stopped tables (Some all) text (Refused (Script spot)) short same is =
+query_stopped : (task : Task) (tables : Tables) (script : Option (List ℕ)) (text : List ℕ) (stop : Stop) → length text ≤ 1048576 → IfSome script (λ all. all ≡ text)
+    → Asks tables text (Err stop) → Ends task tables script (Err stop)
+query_stopped task tables script text Usage short same is = absurd is
+query_stopped task tables script text ReadFault short same is = absurd is
+query_stopped task tables script text ShelfFault short same is = absurd is
+query_stopped task tables script text Memory short same is = tt
+query_stopped task tables script text (Refused (Table name spot)) short same is = absurd is
+query_stopped task tables None text (Refused (Script spot)) short same is = (untold, refl, tt)
+query_stopped task tables (Some all) text (Refused (Script spot)) short same is =
     (faulty (Script spot), inr (subst (λ (t : List ℕ). (length t ≤ 1048576) × HasQueryFault tables t spot) (sym same) (short, is)), refl)
 
 -- what a preference script of this text asks for
 pub asked : (task : Task) (tables : Tables) (script : Option (List ℕ)) (limit : ℕ) (items text : List ℕ) (blocks : List Block) → limit ≡ script_limit task → text ≡ items
     → (length items ≤ limit) × IfSome script (λ all. all ≡ items) → Asks tables text (Ok blocks) → Ends task tables script (Ok (Statements task tables blocks))
-asked Answer tables script limit items text blocks e same is asks =
-    query_asked tables script text blocks (within Answer limit items text e same is.0) (told_text limit script items text same is) asks
+asked task tables script limit items text blocks e same is asks =
+    query_asked task tables script text blocks (within task limit items text e same is.0) (told_text limit script items text same is) asks
 
 -- its fault
 pub stopped : (task : Task) (tables : Tables) (script : Option (List ℕ)) (limit : ℕ) (items text : List ℕ) (stop : Stop) → limit ≡ script_limit task → text ≡ items
     → (length items ≤ limit) × IfSome script (λ all. all ≡ items) → Asks tables text (Err stop) → Ends task tables script (Err stop)
-stopped Answer tables script limit items text stop e same is asks =
-    query_stopped tables script text stop (within Answer limit items text e same is.0) (told_text limit script items text same is) asks
+stopped task tables script limit items text stop e same is asks =
+    query_stopped task tables script text stop (within task limit items text e same is.0) (told_text limit script items text same is) asks
 
 -- a script that cannot be parsed or typed
 pub parse_stopped : (tables : Tables) (text : List ℕ) (tokens seen : List Token) (end : ℕ) (fault : ParseFault) → IsTokens 64 text tokens → seen ≡ tokens → end ≡ length text

@@ -12,4 +12,4 @@ typed_answerable tables [] [] typed = All-nil (IsAnswerable tables)
 typed_answerable tables [] (block ∷ blocks) typed = absurd typed
 typed_answerable tables (tree ∷ trees) [] typed = absurd typed
 typed_answerable tables (tree ∷ trees) (block ∷ blocks) typed =
-    All-cons (IsAnswerable tables) block blocks (record { places = typed.0.valid.places; fits = typed.0.fits }) (typed_answerable tables trees blocks typed.1)
+    All-cons (IsAnswerable tables) block blocks (record { valid = typed.0.valid; fits = typed.0.fits }) (typed_answerable tables trees blocks typed.1)

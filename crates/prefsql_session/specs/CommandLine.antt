@@ -8,7 +8,7 @@ use Rattle.prefsql_session.specs.declared.command.Command.{Command}
 use Rattle.prefsql_session.specs.declared.command.Command.TheVariants.{OnScript}
 use Rattle.prefsql_session.specs.declared.command.TableWord.{TableWord}
 use Rattle.prefsql_session.specs.declared.command.Task.{Task}
-use Rattle.prefsql_session.specs.declared.command.Task.TheVariants.{Answer}
+use Rattle.prefsql_session.specs.declared.command.Task.TheVariants.{Answer, Explain, Rewrite}
 
 -- what each item gives, where each gives something
 abbrev pub each : {X Y : Type 0} → (X → Option Y) → List X → Option (List Y)
@@ -33,9 +33,17 @@ table_word word =
 abbrev pub table_words : List (List ℕ) → Option (List TableWord)
 table_words words = if nat_le (length words) 8 then each table_word words else None
 
--- what is done with a script, by the name of the command; `counts` says that `--stats` stands there
+-- what is done with a script, by the name of the command
+abbrev pub task_of : List ℕ → Option Task
+task_of name =
+    if bytes_eq name (codes "answer") then Some Answer
+    else if bytes_eq name (codes "explain") then Some Explain
+    else if bytes_eq name (codes "rewrite") then Some Rewrite
+    else None
+
+-- the same; `counts` says that `--stats` stands there, which no command takes yet
 abbrev pub task_named : List ℕ → Bool → Option Task
-task_named name counts = if bytes_eq name (codes "answer") && not counts then Some Answer else None
+task_named name counts = if counts then None else task_of name
 
 -- a command of this name, with `--stats` or without, and with these further words
 abbrev pub command_of : List ℕ → Bool → List (List ℕ) → Option Command

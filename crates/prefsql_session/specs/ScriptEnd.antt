@@ -9,13 +9,12 @@ use Rattle.query_meaning.specs.declared.block.Block.{Block}
 use Rattle.query_tree.specs.declared.query.QueryTree.{QueryTree}
 use Rattle.query_typing.specs.Typing.{AreTyped, IsFirstOfScript}
 use Rattle.prefsql_session.specs.declared.command.Task.{Task}
-use Rattle.prefsql_session.specs.declared.command.Task.TheVariants.{Answer}
 use Rattle.prefsql_session.specs.declared.work.Work.{Work}
 use Rattle.prefsql_session.specs.declared.work.Work.TheVariants.{Statements}
 
 -- the greatest number of bytes of a script
 abbrev pub script_limit : Task → ℕ
-script_limit Answer = 1048576
+script_limit task = 1048576
 
 -- a preference script is cut into tokens, these are parsed, and the trees are typed over the tables: the first fault of the
 -- first part of this that has one
@@ -33,11 +32,12 @@ AsksFor tables text blocks =
 
 -- the first fault of a script that is not too long
 abbrev pub HasFault : Task → Tables → List ℕ → Spot → Type 0
-HasFault Answer tables text spot = HasQueryFault tables text spot
+HasFault task tables text spot = HasQueryFault tables text spot
 
 -- what the script asks for
 abbrev pub IsWork : Task → Tables → List ℕ → Work → Type 0
-IsWork Answer tables text work = (blocks : List Block) × AsksFor tables text blocks × (work ≡ Statements Answer tables blocks)
+IsWork task tables text work =
+    (blocks : List Block) × AsksFor tables text blocks × (work ≡ Statements task tables blocks)
 
 -- a script that is too long has its fault at the limit
 pub record IsTooLong (task : Task) (text : List ℕ) (spot : Spot) : Type 0 where

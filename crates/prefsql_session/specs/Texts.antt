@@ -2,26 +2,33 @@
 use Rattle.std.specs.Prelude.{ℕ, List, All}
 use Rattle.std.specs.List.{flat_map}
 use Rattle.prefsql_tables.specs.Table.{Tables}
+use Rattle.plan_algebra.specs.PlanText.{plan_text}
+use Rattle.plan_stages.specs.Stages.{block_plan}
 use Rattle.query_meaning.specs.Answers.{answer_of}
-use Rattle.query_meaning.specs.BlockFits.{FitsTables, HasPlaces}
+use Rattle.query_meaning.specs.BlockFits.{FitsTables}
+use Rattle.query_meaning.specs.Valid.{IsValidBlock}
 use Rattle.query_meaning.specs.declared.block.Block.{Block}
+use Rattle.rewritten_query.specs.Rewriting.{rewritten}
+use Rattle.sql_text.specs.Text as sql
 use Rattle.table_csv.specs.AnswerText.{text_of_answer}
 use Rattle.prefsql_session.specs.declared.command.Task.{Task}
-use Rattle.prefsql_session.specs.declared.command.Task.TheVariants.{Answer}
+use Rattle.prefsql_session.specs.declared.command.Task.TheVariants.{Answer, Explain, Rewrite}
 use Rattle.prefsql_session.specs.declared.work.Work.{Work}
 use Rattle.prefsql_session.specs.declared.work.Work.TheVariants.{Statements}
 
--- what the task asks of a statement: its answer as text
+-- what the task asks of a statement as text: its answer, its plan, or its SQL query
 abbrev pub statement_text : Task → Tables → Block → List ℕ
 statement_text Answer tables block = text_of_answer (answer_of tables block)
+statement_text Explain tables block = plan_text block (block_plan block)
+statement_text Rewrite tables block = sql.text_of (rewritten block)
 
 -- the texts of the statements, one after the other
 abbrev pub text_of : Work → List ℕ
 text_of (Statements task tables blocks) = flat_map (statement_text task tables) blocks
 
--- a query that has an answer over these tables
+-- a query that has an answer over these tables, a plan, and an SQL query that means the same
 pub record IsAnswerable (tables : Tables) (block : Block) : Type 0 where
-  pub places : HasPlaces block
+  pub valid : IsValidBlock block
   pub fits : FitsTables tables block
 
 abbrev pub AreAnswerable : Tables → List Block → Type 0

@@ -7,11 +7,15 @@ pub(crate) struct TableWord {
     pub(crate) path: Text,
 }
 
-/// What is done with a script.
+/// What is done with each statement of a preference script.
 #[derive(Clone, Copy, Debug, PartialEq, Eq)]
 pub(crate) enum Task {
-    /// Its statements are answered.
+    /// It is answered.
     Answer,
+    /// Its plan is shown.
+    Explain,
+    /// It is written in SQL-92.
+    Rewrite,
 }
 
 /// What the words of a command line ask for.

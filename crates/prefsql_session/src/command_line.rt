@@ -4,7 +4,7 @@ ghost use Rattle.clap.specs.Matches.{found_of};
 ghost use Rattle.clap.specs.Simple.{matches_of};
 ghost use Rattle.clap.specs.Takes.{takes};
 ghost use Rattle.clap.specs.Walk.{rows_of};
-ghost use Rattle.prefsql_session.specs.CommandLine.{begins_plain, is_plain, accepted, command_of, task_named};
+ghost use Rattle.prefsql_session.specs.CommandLine.{begins_plain, is_plain, accepted, command_of, task_named, task_of};
 ghost use Rattle.prefsql_session.specs.WordsApp.{Reads, words_app};
 
 use crate::reader::words_command;
@@ -15,14 +15,23 @@ use clap::error::ErrorKind;
 use prefsql_values::{Memory, Text};
 use std::alloc::Global;
 
-// What is done with a script, by the name of the command; `counts` says that `--stats` stands there.
+// What is done with a script, by the name of the command.
+fn task_of(name: &str) -> Option<Task>
+    ensures { result ≡ task_of name.now }
+{
+    match name {
+        "answer" => Some(Task::Answer),
+        "explain" => Some(Task::Explain),
+        "rewrite" => Some(Task::Rewrite),
+        _ => None,
+    }
+}
+
+// The same; `counts` says that `--stats` stands there, which no command takes yet.
 fn task_named(name: &str, counts: bool) -> Option<Task>
     ensures { result ≡ task_named name.now counts }
 {
-    match name {
-        "answer" if !counts => Some(Task::Answer),
-        _ => None,
-    }
+    if counts { None } else { task_of(name) }
 }
 
 fn command_of(

@@ -29,7 +29,7 @@ fn script_limit(task: Task) -> u32
     ensures { result ≡ script_limit task }
 {
     match task {
-        Task::Answer => 1_048_576,
+        Task::Answer | Task::Explain | Task::Rewrite => 1_048_576,
     }
 }
 
@@ -76,10 +76,6 @@ pub(crate) fn read_work<S: Source>(
     ensures end { OnOk result (IsAtEnd (S.left script.new)) }
 {
     let text = read_script(alloc, script, script_limit(task))?;
-    match task {
-        Task::Answer => {
-            let blocks = queries(alloc, &text, &tables)?;
-            Ok(Work::Statements(task, tables, blocks))
-        }
-    }
+    let blocks = queries(alloc, &text, &tables)?;
+    Ok(Work::Statements(task, tables, blocks))
 }

@@ -71,8 +71,8 @@ fn refuse_words<E: Sink>(err: &mut E) -> Status
     put(err, USAGE.as_bytes(), Status::Usage)
 }
 
-/// Runs the program over these words, which are those after its name: `answer`, at most eight table words `NAME=PATH` and one
-/// `--`. What the words, the files and the script come to is the run's course, and what the run writes and how it ends follow
+/// Runs the program over these words, which are those after its name: `answer`, `explain` or `rewrite`, at most eight table
+/// words `NAME=PATH` and one `--`. What the words, the files and the script come to is the run's course, and what the run writes and how it ends follow
 /// from that, want of memory and the faults of the four outer objects. No step is counted yet.
 pub fn run<S: Source, O: Sink, E: Sink, H: Shelf, L: Ledger>(
     alloc: Global,

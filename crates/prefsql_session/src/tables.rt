@@ -11,7 +11,7 @@ ghost use Rattle.prefsql_session.specs.declared.command.TableWord.{TableWord};
 use crate::TableWord;
 use crate::fault::{Fault, Stop};
 use prefsql_io::{LoadError, Shelf};
-use prefsql_tables::{Table, TableSet};
+use prefsql_tables::{AddError, Table, TableSet};
 use prefsql_values::{Memory, Text};
 use std::alloc::Global;
 use table_csv::{TableFault, TableSpot, read_table};
@@ -105,9 +105,11 @@ pub(crate) fn open_tables<H: Shelf>(
     let mut tables = TableSet::new(alloc);
     for word in words {
         let table = open_table(alloc, &tables, word, shelf)?;
-        // No table of this name is there, so the only error is want of memory.
-        if tables.add_table(word.name.copy(alloc)?, table).is_err() {
-            return Err(Stop::Memory);
+        match tables.add_table(word.name.copy(alloc)?, table) {
+            Ok(()) => {}
+            // A name that stands before was refused above.
+            Err(AddError::Duplicate) => unreachable!(),
+            Err(AddError::Memory) => return Err(Stop::Memory),
         }
     }
     Ok(tables)

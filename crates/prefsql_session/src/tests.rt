@@ -3,3 +3,4 @@ mod answers;
 mod case;
 mod devices;
 mod faults;
+mod texts;

@@ -4,16 +4,27 @@ ghost use Rattle.std.specs.Io.KnownBytes.{Appends, Keeps};
 ghost use Rattle.std.specs.List.{flat_map};
 ghost use Rattle.prefsql_io.specs.Counts.{HasCause};
 ghost use Rattle.prefsql_io.specs.Streams.{AppendsLess};
+ghost use Rattle.plan_algebra.specs.PlanText.{plan_text};
+ghost use Rattle.plan_stages.specs.Stages.{block_plan};
+ghost use Rattle.query_meaning.specs.Answers.{answer_of};
+ghost use Rattle.query_meaning.specs.Valid.{IsValidBlock};
+ghost use Rattle.rewritten_query.specs.Rewriting.{rewritten};
+ghost use Rattle.sql_text.specs.Text as sql;
+ghost use Rattle.table_csv.specs.AnswerText.{text_of_answer};
 ghost use Rattle.prefsql_session.specs.Parts.{WritesWork};
 ghost use Rattle.prefsql_session.specs.Run.{GetsFront};
 ghost use Rattle.prefsql_session.specs.Texts.{HasTexts, IsAnswerable, statement_text};
 
 use crate::work::Work;
 use crate::{Status, Task};
+use plan_algebra::explain_text;
+use plan_optimiser::optimise;
 use prefsql_io::{Failed, Sink, write_all};
 use prefsql_tables::TableSet;
 use prefsql_values::Memory;
 use query_meaning::{Block, plain_answer};
+use sql_rewriter::rewrite;
+use sql_text::write_sql;
 use std::alloc::Global;
 use table_csv::answer_text;
 
@@ -46,6 +57,33 @@ impl From<Failed> for Halt {
     }
 }
 
+// The answer of a statement.
+fn answered(alloc: Global, tables: &TableSet, block: &Block) -> Result<Vec<u8>, Memory>
+    requires { IsAnswerable tables.now block.now }
+    ensures { IfOk result (λ text. text.items ≡ text_of_answer (answer_of tables.now block.now)) }
+{
+    let answer = plain_answer(alloc, block, tables)?;
+    answer_text(alloc, &answer)
+}
+
+// The plan of a statement.
+fn explained(alloc: Global, block: &Block) -> Result<Vec<u8>, Memory>
+    requires { IsValidBlock block.now }
+    ensures { IfOk result (λ text. text.items ≡ plan_text block.now (block_plan block.now)) }
+{
+    let plan = optimise(alloc, block)?;
+    explain_text(alloc, &plan, block)
+}
+
+// The SQL query of a statement.
+fn written(alloc: Global, block: &Block) -> Result<Vec<u8>, Memory>
+    requires { IsValidBlock block.now }
+    ensures { IfOk result (λ text. text.items ≡ sql.text_of (rewritten block.now)) }
+{
+    let query = rewrite(alloc, block)?;
+    write_sql(alloc, &query)
+}
+
 // What the task asks of a statement, as text.
 fn statement_text(
     alloc: Global,
@@ -57,10 +95,9 @@ fn statement_text(
     ensures { IfOk result (λ text. text.items ≡ statement_text task tables.now block.now) }
 {
     match task {
-        Task::Answer => {
-            let answer = plain_answer(alloc, block, tables)?;
-            answer_text(alloc, &answer)
-        }
+        Task::Answer => answered(alloc, tables, block),
+        Task::Explain => explained(alloc, block),
+        Task::Rewrite => written(alloc, block),
     }
 }
 

@@ -1,0 +1,42 @@
+//! The plans and the SQL queries of scripts over the cars and the dealers.
+use super::case::{Case, answered, ends};
+use std::test::Fail;
+
+#[test]
+fn plans(rt: HostRuntime) -> Result<(), Fail> {
+    let alloc = rt.alloc();
+    for (script, out) in [
+        (
+            "SELECT id FROM cars PREFERRING color = 'red' CASCADE LOWEST(price)",
+            "best P2\n  best P1\n    scan T1 CARS\n\n",
+        ),
+        (
+            "SELECT id, color AS colour, LEVEL(color), DISTANCE(price) AS off FROM cars WHERE power >= 150 PREFERRING color IN ('red', 'blue') ELSE color <> 'grey' AND price BETWEEN 38000 AND 42000 CASCADE power IN (180, 200) BUT ONLY DISTANCE(price) <= 5000 ORDER BY colour; -- shop",
+            "best ((P1 and P2) cascade P3)\n  filter W1 B1\n    scan T1 CARS\n\n",
+        ),
+        (
+            "SELECT c.id, d.city FROM cars c, dealers d WHERE c.id <> 2 AND c.dealer = d.name PREFERRING LOWEST(c.price)",
+            "best P1\n  filter W2\n    join\n      best P1 by T1.DEALER\n        filter W1\n          scan T1 CARS\n      scan T2 DEALERS\n\n",
+        ),
+    ] {
+        let case = Case {
+            words: &["explain", "CARS=cars.csv", "DEALERS=dealers.csv"],
+            ..answered(script.as_bytes(), out)
+        };
+        assert!(rt; ends(alloc, &case)?, "{script}");
+    }
+    Ok(())
+}
+
+#[test]
+fn an_sql_query(rt: HostRuntime) -> Result<(), Fail> {
+    let case = Case {
+        words: &["rewrite", "CARS=cars.csv", "DEALERS=dealers.csv"],
+        ..answered(
+            b"SELECT id FROM cars PREFERRING LOWEST(price) GROUPING dealer",
+            "SELECT \"A1\".\"C1\" AS \"ID\" FROM (SELECT \"T1\".\"ID\" AS \"C1\", \"T1\".\"DEALER\" AS \"C2\", \"T1\".\"PRICE\" AS \"L1\" FROM \"CARS\" AS \"T1\") AS \"A1\" WHERE NOT EXISTS (SELECT 1 AS \"X1\" FROM (SELECT \"T1\".\"ID\" AS \"C1\", \"T1\".\"DEALER\" AS \"C2\", \"T1\".\"PRICE\" AS \"L1\" FROM \"CARS\" AS \"T1\") AS \"A2\" WHERE (\"A2\".\"C2\" = \"A1\".\"C2\" OR \"A2\".\"C2\" IS NULL AND \"A1\".\"C2\" IS NULL) AND \"A2\".\"L1\" < \"A1\".\"L1\");\n",
+        )
+    };
+    assert!(rt; ends(rt.alloc(), &case)?);
+    Ok(())
+}
