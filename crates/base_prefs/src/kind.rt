@@ -1,12 +1,15 @@
 //! What a base preference is, and how it judges values.
-ghost use Rattle.std.specs.Prelude.{◌≡◌, ◌↔◌, not, IsTrue, IsSome, IfSome};
+ghost use Rattle.std.specs.Prelude.{◌≡◌, ◌↔◌, false, not, IsTrue, IsSome, IfSome, IfOk};
+ghost use Rattle.base_prefs.specs.Kind.{has_level};
 ghost use Rattle.prefsql_values.specs.Value.{value_of};
 
 use crate::edge::ValueSet;
 use crate::graph::Graph;
 use crate::judge::{contains, distance_from, distance_to, layer, number};
-use prefsql_values::{Cell, List};
+use prefsql_values::{Cell, List, Memory};
+use std::alloc::Global;
 use std::marker::Model;
+use std::rc::Rc;
 
 /// The ten kinds of base preferences, with each value of a set once.
 #[derive(Debug, Drop)]
@@ -28,37 +31,77 @@ pub enum Kind {
 /// `pos`, `neg`, `pos_pos`, `pos_neg`, `layered`, `explicit`, `around`, `between`, `lowest` and `highest` make one.
 #[derive(Debug, Drop)]
 pub struct BasePref {
-    kind: Kind,
+    stored: Stored,
+}
+
+/// Where a kind stands: alone where it names no values, else shared among the copies of the preference.
+#[derive(Debug, Drop)]
+enum Stored {
+    Alone(Kind),
+    Shared(Rc<Kind>),
 }
 
 impl Model for BasePref {
     ghost use Rattle.base_prefs.specs.declared.kind.Kind.{Kind};
     ghost use Rattle.base_prefs.specs.KindLimits.{IsSound};
+    ghost use Rattle.base_prefs.specs.Stored.{stored_kind, IsRightlyAlone};
 
     ghost Value = { Kind };
 
-    ghost view = { λ pref. pref.kind };
+    ghost view = { λ pref. stored_kind pref.stored };
 
-    ghost invariant = { λ pref. IsSound pref.kind };
+    ghost invariant = { λ pref. IsSound (stored_kind pref.stored) × IsRightlyAlone pref.stored };
 }
 
 impl BasePref {
-    ghost use Rattle.base_prefs.specs.Kind.{IsJudged, level_of, distance_of, has_level, has_distance, key_of, better_of, is_explicit, IsBetter};
+    ghost use Rattle.base_prefs.specs.Kind.{IsJudged, level_of, distance_of, has_distance, key_of, better_of, is_explicit, IsBetter};
     ghost use Rattle.base_prefs.specs.KindLimits.{IsSound};
     ghost use Rattle.base_prefs.specs.Level.{IsLevel};
 
+    /// A kind that names no values.
     pub(crate) fn of(kind: Kind) -> BasePref
-        requires { IsSound kind }
+        requires sound { IsSound kind }
+        requires alone { has_level kind ≡ false }
         ensures { result ≡ kind }
     {
-        BasePref { kind }
+        BasePref {
+            stored: Stored::Alone(kind),
+        }
+    }
+
+    /// A kind that copies are to share, or want of memory.
+    pub(crate) fn shared(alloc: Global, kind: Kind) -> Result<BasePref, Memory>
+        requires { IsSound kind }
+        ensures { IfOk result (λ pref. pref ≡ kind) }
+    {
+        match Rc::new(alloc, kind) {
+            Ok(kind) => Ok(BasePref {
+                stored: Stored::Shared(kind),
+            }),
+            Err(_) => Err(Memory),
+        }
+    }
+
+    /// An equal preference, or want of memory. What it names is not copied, but shared.
+    pub fn copy(&self, alloc: Global) -> Result<BasePref, Memory>
+        ensures { IfOk result (λ copied. copied ≡ self.now) }
+    {
+        let _memory = alloc;
+        let stored = match &self.stored {
+            Stored::Alone(kind) => Stored::Alone(copy_alone(kind)),
+            Stored::Shared(kind) => Stored::Shared(kind.clone()?),
+        };
+        Ok(BasePref { stored })
     }
 
     pub(crate) fn kind(&self) -> &Kind
         ensures same { result.now ≡ self.now }
         ensures sound { IsSound self.now }
     {
-        &self.kind
+        match &self.stored {
+            Stored::Alone(kind) => kind,
+            Stored::Shared(kind) => kind.as_ref(),
+        }
     }
 
     /// Every base preference keeps these limits: its values can be written in a script, its sets are not empty and share
@@ -87,7 +130,7 @@ impl BasePref {
     fn rank(&self, cell: Cell<'_>) -> Option<u32>
         ensures { result ≡ level_of self.now (value_of cell.entry) }
     {
-        match &self.kind {
+        match self.kind() {
             Kind::Pos(set) => Some(if contains(set.values.as_slice(), cell) {
                 1
             } else {
@@ -127,7 +170,7 @@ impl BasePref {
         ensures distance { result ≡ distance_of self.now (value_of cell.entry) }
         ensures some { IsSome result ↔ IsTrue (has_distance self.now) }
     {
-        match &self.kind {
+        match self.kind() {
             Kind::Around(center) => Some(distance_from(*center, number(cell))),
             Kind::Between(low, up) => Some(distance_to(*low, *up, number(cell))),
             _ => None,
@@ -138,7 +181,7 @@ impl BasePref {
     pub fn is_weak(&self) -> bool
         ensures { result ≡ not (is_explicit self.now) }
     {
-        !matches!(&self.kind, Kind::Explicit(_))
+        !matches!(self.kind(), Kind::Explicit(_))
     }
 
     /// What a value is ranked by.
@@ -146,7 +189,7 @@ impl BasePref {
         requires { IsJudged self.now (value_of cell) }
         ensures { result ≡ key_of self.now (value_of cell.entry) }
     {
-        match &self.kind {
+        match self.kind() {
             Kind::Around(center) => distance_from(*center, number(cell)),
             Kind::Between(low, up) => distance_to(*low, *up, number(cell)),
             Kind::Lowest => number(cell),
@@ -174,9 +217,23 @@ impl BasePref {
         requires x_judged { IsJudged self.now (value_of x) }
         ensures { result ≡ better_of self.now (value_of y.entry) (value_of x.entry) }
     {
-        match &self.kind {
+        match self.kind() {
             Kind::Explicit(graph) => graph.better(y, x),
             _ => self.key(y) < self.key(x),
         }
+    }
+}
+
+/// A kind that names no values, again.
+fn copy_alone(kind: &Kind) -> Kind
+    requires { has_level kind.now ≡ false }
+    ensures { result ≡ kind.now }
+{
+    match kind {
+        Kind::Around(center) => Kind::Around(*center),
+        Kind::Between(low, up) => Kind::Between(*low, *up),
+        Kind::Lowest => Kind::Lowest,
+        Kind::Highest => Kind::Highest,
+        _ => unreachable!(),
     }
 }

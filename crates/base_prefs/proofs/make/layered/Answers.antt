@@ -6,8 +6,8 @@ use Rattle.base_prefs.specs.Sets.{written, HasOverlap, once}
 use Rattle.base_prefs.proofs.SetLaws.{layers_kept}
 use Rattle.base_prefs.proofs.make.layered.Goals as goal
 
-pub of-requires : goal.of-requires
-of-requires c =
+pub shared-requires : goal.shared-requires
+shared-requires c =
     let before = c.args.before in
     let after = c.args.after in
     let fit = rw (c.as_slice.ensures, c.as_slice-2.ensures) at c.all_fit.ensures in
