@@ -53,7 +53,7 @@ use Rattle.sql_tree.specs.declared.tree.SqlPlace.{SqlPlace}
 use Rattle.sql_tree.specs.declared.tree.SqlTable.{SqlTable}
 use Rattle.sql_text.specs.Text.{Names, ItemNames, item_at}
 use Rattle.sql_read_back.proofs.Writable.{FineFrom, FineItem, fine_from, fine_item, filter_fine, FineScalar, FineTerm, is_term as fine_is_term, fine_cond, fine_scalar, fine_term, fine_when, fine_query, fine_source, last_fine}
-use Rattle.sql_reader.specs.NamesMeant.{places_of}
+use Rattle.sql_resolver.specs.NamesMeant.{places_of}
 use Rattle.sql_read_back.proofs.Found.{is_only, written_name, is_found}
 use Rattle.sql_text.specs.declared.named.NamedCond.{NamedCond}
 use Rattle.sql_text.specs.declared.named.NamedCond as named_cond
@@ -61,10 +61,10 @@ use Rattle.sql_text.specs.declared.named.NamedScalar.{NamedScalar}
 use Rattle.sql_text.specs.declared.named.NamedScalar as named_scalar
 use Rattle.sql_read_back.proofs.FineEquations.{fine-And, fine-Or, fine-Not, fine-Compare, fine-Between, fine-OneOf, fine-IsNull, fine-Column, fine-Sum, fine_term_is, fine-Case, fine_when_is, fine-Exists, fine_from_is, fine_item_is, fine_query_is, fine-Table, fine-Derived}
 use Rattle.sql_read_back.proofs.Placed.{Each}
-use Rattle.sql_reader.specs.Scope.{scope_names, ScopeColumn, ScopeItem, Scopes, names_in, column_at, no_column, no_scope_item}
-use Rattle.sql_reader.specs.Owed.{first_spot, either_spot, Fault, fault_if, differ, inner_faults, is_text, both_bounds, max_bound}
-use Rattle.sql_reader.specs.Reading.{cond_tree, cond_faults, In, FromReading, QueryReading, CondReading, ScalarReading, unlike, greatest_bound, WhenReading, when_reading, from_reading, query_reading, table_column, table_reading, repeated, OutputReading, ItemReading, item_reading, outputs_from, output_of, results_of, first_domain, tree_if, faults_if, column_reading, cond_reading, scalar_reading, TermReading, term_reading, sum_bound as reading_bound, bound_step, bound_faults}
-use Rattle.sql_reader.specs.Statements.{with_order}
+use Rattle.sql_resolver.specs.Scope.{scope_names, ScopeColumn, ScopeItem, Scopes, names_in, column_at, no_column, no_scope_item}
+use Rattle.sql_resolver.specs.Owed.{first_spot, either_spot, Fault, fault_if, differ, inner_faults, is_text, both_bounds, max_bound}
+use Rattle.sql_resolver.specs.Reading.{cond_tree, cond_faults, In, FromReading, QueryReading, CondReading, ScalarReading, unlike, greatest_bound, WhenReading, when_reading, from_reading, query_reading, table_column, table_reading, repeated, OutputReading, ItemReading, item_reading, outputs_from, output_of, results_of, first_domain, tree_if, faults_if, column_reading, cond_reading, scalar_reading, TermReading, term_reading, sum_bound as reading_bound, bound_step, bound_faults}
+use Rattle.sql_resolver.specs.Statements.{with_order}
 use Rattle.sql_read_back.proofs.JudgedEquations.{judged-And, judged-Or, judged-Not, judged-Compare, judged-Between, judged-OneOf, judged-IsNull, judged-Column, judged-Number, judged-Chars, judged-Sum, judged_term_is, judged-Case, judged_when_is, judged-Exists, judged-Table, judged-Derived, judged_query_is, judged_parts, judged_from_is, judged_item_is, own_items}
 use Rattle.sql_read_back.proofs.Readings.{query_reading_is, whole_reading, filter_reading, own_scopes, item_reading_is, reading-And, reading-Or, reading-Not, reading-Compare, reading-Between, reading-OneOf, reading-IsNull, reading-Column, reading-Literal, reading-Sum, term_reading_is, reading-Case, when_reading_is, last_reading, reading-Exists, reading-Table, reading-Derived}
 

@@ -3,7 +3,7 @@ use Rattle.std.specs.Prelude.{ℕ, Bool, false, ◌&&◌, ◌==◌, List, [], �
 use Rattle.query_tree.specs.declared.name.NameTree.{NameTree}
 use Rattle.sql_tree.specs.declared.tree.SqlPlace.{SqlPlace}
 use Rattle.sql_text.specs.Text.{Names, item_at}
-use Rattle.sql_reader.specs.NamesMeant.{places_of}
+use Rattle.sql_resolver.specs.NamesMeant.{places_of}
 
 -- the two places are one
 abbrev pub place_eq : SqlPlace → SqlPlace → Bool

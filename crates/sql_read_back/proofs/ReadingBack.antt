@@ -33,11 +33,11 @@ use Rattle.sql_read_back.proofs.Judged.{judged_item, judged_from, judged_cond, j
 use Rattle.sql_read_back.proofs.JudgedEquations.{judged_parts, judged_query_is, own_items}
 use Rattle.sql_text.specs.Pieces.{tokens_from}
 use Rattle.std.proofs.lemmas.List.{length-map}
-use Rattle.sql_reader.specs.Scope.{ScopeColumn}
-use Rattle.sql_reader.specs.Owed.{fault_if, first_spot, either_spot}
-use Rattle.sql_reader.specs.Reading.{query_reading}
-use Rattle.sql_reader.specs.Statements.{KeyReading, key_of, key_reading, ok_unless, and_more, with_order, statement_reading}
-use Rattle.sql_reader.specs.Faults.{max_nesting}
+use Rattle.sql_resolver.specs.Scope.{ScopeColumn}
+use Rattle.sql_resolver.specs.Owed.{fault_if, first_spot, either_spot}
+use Rattle.sql_resolver.specs.Reading.{query_reading}
+use Rattle.sql_resolver.specs.Statements.{KeyReading, key_of, key_reading, ok_unless, and_more, with_order, statement_reading}
+use Rattle.sql_parser.specs.Faults.{max_nesting}
 use Rattle.sql_reader.specs.Reads.{ReadsAs}
 use Rattle.sql_read_back.proofs.Back as back
 

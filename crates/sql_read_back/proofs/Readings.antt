@@ -7,7 +7,7 @@ use Rattle.prefsql_tables.specs.Names.{table_place}
 use Rattle.query_tree.specs.declared.name.NameTree.{NameTree}
 use Rattle.query_tree.specs.declared.name.LiteralTree.{LiteralTree}
 use Rattle.query_tree.specs.declared.query.FromTree.{FromTree}
-use Rattle.sql_reader.specs.NamesMeant.{places_of}
+use Rattle.sql_resolver.specs.NamesMeant.{places_of}
 use Rattle.sql_text.specs.declared.named.NamedCond.{NamedCond}
 use Rattle.sql_text.specs.declared.named.NamedCond as named_cond
 use Rattle.sql_text.specs.declared.named.NamedCond.TheOpen.{NamedCond-F, NamedFrom-F, NamedScalar-F, NamedSelect-F}
@@ -23,9 +23,9 @@ use Rattle.sql_text.specs.declared.named.NamedItem.{NamedItem}
 use Rattle.sql_text.specs.declared.named.NamedTerm.{NamedTerm}
 use Rattle.sql_text.specs.declared.named.NamedWhen.{NamedWhen}
 use Rattle.sql_text.specs.declared.named.NamedQuery.{NamedQuery}
-use Rattle.sql_reader.specs.Scope.{Scopes, names_in}
-use Rattle.sql_reader.specs.Owed.{either_spot, first_spot, inner_faults}
-use Rattle.sql_reader.specs.Reading.{repeated, cond_tree, cond_faults, In, CondReading, ScalarReading, TermReading, WhenReading, ItemReading, OutputReading, FromReading, QueryReading, cond_step, from_step, scalar_step, select_step, item_step, query_step, term_step, when_step, cond_reading, from_reading, scalar_reading, select_reading, item_reading, query_reading, term_reading, when_reading, column_reading, literal_reading, sum_reading, case_reading, unlike, outputs_from, table_reading}
+use Rattle.sql_resolver.specs.Scope.{Scopes, names_in}
+use Rattle.sql_resolver.specs.Owed.{either_spot, first_spot, inner_faults}
+use Rattle.sql_resolver.specs.Reading.{repeated, cond_tree, cond_faults, In, CondReading, ScalarReading, TermReading, WhenReading, ItemReading, OutputReading, FromReading, QueryReading, cond_step, from_step, scalar_step, select_step, item_step, query_step, term_step, when_step, cond_reading, from_reading, scalar_reading, select_reading, item_reading, query_reading, term_reading, when_reading, column_reading, literal_reading, sum_reading, case_reading, unlike, outputs_from, table_reading}
 use Rattle.sql_tree.specs.declared.tree.SqlCond as tree
 use Rattle.sql_tree.specs.declared.tree.SqlSource as source
 use Rattle.sql_tree.specs.declared.tree.SqlQuery.{roll-SqlQuery}

@@ -14,7 +14,7 @@ use Rattle.sql_tree.specs.Shown.{View, ShownItem, ShownColumn, number_shape}
 use Rattle.sql_tree.specs.Shown as shown
 use Rattle.sql_tree.specs.WellFormed.{is_name, all_differ, is_in_range, is_told, is_column}
 use Rattle.sql_text.specs.Text.{Names, ItemNames, item_at, no_item}
-use Rattle.sql_reader.specs.NamesMeant.{positions_from, is_called, places_in, places_of}
+use Rattle.sql_resolver.specs.NamesMeant.{positions_from, is_called, places_in, places_of}
 use Rattle.sql_read_back.proofs.Found.{is_found, is_only}
 use Rattle.sql_read_back.proofs.NamesShown.{item_of, shown_names}
 

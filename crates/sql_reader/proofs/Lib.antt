@@ -1,9 +1,2 @@
-pub mod Predictive
-pub mod Counted
-pub mod SameGrammar
-pub mod Depth
-pub mod Accepted
-pub mod Faults
-pub mod OneFault
 pub mod OneReading
 pub mod SomeReading

@@ -5,11 +5,11 @@ use Rattle.prefsql_lexer.proofs.OneAnswer.{tokens_one, tokens_or_fault, fault_on
 use Rattle.prefsql_tables.specs.Table.{Tables}
 use Rattle.sql_tree.specs.declared.tree.SqlQuery.{SqlQuery}
 use Rattle.sql_text.specs.Scripts.{IsScript}
-use Rattle.sql_reader.specs.Statements.{script_reading}
-use Rattle.sql_reader.specs.Faults.{IsFault, max_nesting}
+use Rattle.sql_resolver.specs.Statements.{script_reading}
+use Rattle.sql_parser.specs.Faults.{IsFault, max_nesting}
 use Rattle.sql_reader.specs.Reads.{ReadsAs, HasFirstFault}
-use Rattle.sql_reader.proofs.OneFault.{script_or_fault, fault_one as grammar_fault_one}
-use Rattle.sql_reader.proofs.Accepted.{one_list}
+use Rattle.sql_parser.proofs.OneFault.{script_or_fault, fault_one as grammar_fault_one}
+use Rattle.sql_parser.proofs.Accepted.{one_list}
 
 module _ (tables : Tables) (text : List ℕ) where
   pub reads_one : (some other : List SqlQuery) → ReadsAs tables text some → ReadsAs tables text other → some ≡ other

@@ -10,10 +10,10 @@ use Rattle.prefsql_tables.specs.Table.{Tables}
 use Rattle.sql_tree.specs.declared.tree.SqlQuery.{SqlQuery}
 use Rattle.sql_text.specs.declared.named.NamedStatement.{NamedStatement}
 use Rattle.sql_text.specs.Scripts.{IsScript}
-use Rattle.sql_reader.specs.Faults.{max_nesting}
-use Rattle.sql_reader.specs.Statements.{script_reading}
+use Rattle.sql_parser.specs.Faults.{max_nesting}
+use Rattle.sql_resolver.specs.Statements.{script_reading}
 use Rattle.sql_reader.specs.Reads.{ReadsAs, HasFirstFault}
-use Rattle.sql_reader.proofs.OneFault.{script_or_some_fault}
+use Rattle.sql_parser.proofs.OneFault.{script_or_some_fault}
 
 pub reads_or_has_fault : (tables : Tables) (text : List ℕ) → IsUtf8 text → ((queries : List SqlQuery) × ReadsAs tables text queries) ⊎ ((spot : Spot) × HasFirstFault tables text spot)
 reads_or_has_fault tables text utf8 = elim (tokens_or_first_fault max_nesting text utf8) [ inl t ↦ of_tokens t.0 t.1 | inr f ↦ inr (f.0, inl f.1) ]

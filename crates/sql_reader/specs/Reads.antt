@@ -8,8 +8,8 @@ use Rattle.prefsql_tables.specs.Table.{Tables}
 use Rattle.sql_tree.specs.declared.tree.SqlQuery.{SqlQuery}
 use Rattle.sql_text.specs.declared.named.NamedStatement.{NamedStatement}
 use Rattle.sql_text.specs.Scripts.{IsScript}
-use Rattle.sql_reader.specs.Faults.{IsFault, max_nesting}
-use Rattle.sql_reader.specs.Statements.{script_reading}
+use Rattle.sql_parser.specs.Faults.{IsFault, max_nesting}
+use Rattle.sql_resolver.specs.Statements.{script_reading}
 
 -- the text has tokens, which are a script, whose statements mean these queries
 abbrev pub ReadsAs : Tables → List ℕ → List SqlQuery → Type 0

@@ -7,7 +7,7 @@ use Rattle.prefsql_lexer.specs.declared.token.Token.{Token}
 use Rattle.prefsql_lexer.specs.declared.token.Symbol.TheVariants.{Semicolon}
 use Rattle.sql_text.specs.declared.named.NamedStatement.{NamedStatement}
 use Rattle.token_forms.specs.Classes.{class}
-use Rattle.sql_reader.specs.ReadGrammar.{Counted, counted, counted_statements, statement_form}
+use Rattle.sql_parser.specs.ReadGrammar.{Counted, counted, counted_statements, statement_form}
 use Rattle.sql_text.specs.Grammar.{Grammar, Rule, with_last}
 use Rattle.token_forms.specs.Forms.{◌⨟◌, ◌⨟>◌, ◌<⨟◌, symbol_only}
 

@@ -9,7 +9,7 @@ use Rattle.token_forms.specs.Classes.{class}
 use Rattle.sql_text.specs.declared.named.NamedCond.{And, Or}
 use Rattle.sql_text.specs.declared.named.NamedWhen.{NamedWhen}
 use Rattle.sql_text.specs.Grammar.{Grammar, Rule, condition_rule, sum, comparison, between, member, null_test, exists, negated_rest, test_tree, negated_tree, when_tree, list, from_items, query_tree, statement_tree, rest, test, neg, conj, cond, when, whens, results, filter, query, statement, ended}
-use Rattle.sql_reader.specs.ReadGrammar.{negatable, rest_form, test_form, negated, conjunction, condition, when_form, whens_form, results_form, filter_form, query_form, statement_form}
+use Rattle.sql_parser.specs.ReadGrammar.{negatable, rest_form, test_form, negated, conjunction, condition, when_form, whens_form, results_form, filter_form, query_form, statement_form}
 use Rattle.token_forms.specs.Forms.{◌⨟>◌, ◌<⨟◌, word_at, symbol_only, word_only, separated, in_parens, chain}
 use Rattle.token_forms.specs.Phrases.{distinctness, negation, ordering}
 

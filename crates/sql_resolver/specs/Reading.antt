@@ -32,9 +32,9 @@ use Rattle.sql_text.specs.declared.named.NamedItem.{NamedItem, fold-NamedItem}
 use Rattle.sql_text.specs.declared.named.NamedQuery.{NamedQuery, fold-NamedQuery}
 use Rattle.sql_text.specs.declared.named.NamedTerm.{NamedTerm, fold-NamedTerm}
 use Rattle.sql_text.specs.declared.named.NamedWhen.{NamedWhen, fold-NamedWhen}
-use Rattle.sql_reader.specs.NamesMeant.{column_part, places_of}
-use Rattle.sql_reader.specs.Scope.{ScopeColumn, ScopeItem, Scope, Scopes, names_in, column_at}
-use Rattle.sql_reader.specs.Owed.{Fault, fault, fault_if, first_spot, either_spot, inner_faults, differ, is_text, max_bound, both_bounds}
+use Rattle.sql_resolver.specs.NamesMeant.{column_part, places_of}
+use Rattle.sql_resolver.specs.Scope.{ScopeColumn, ScopeItem, Scope, Scopes, names_in, column_at}
+use Rattle.sql_resolver.specs.Owed.{Fault, fault, fault_if, first_spot, either_spot, inner_faults, differ, is_text, max_bound, both_bounds}
 
 -- ---- what a part is
 

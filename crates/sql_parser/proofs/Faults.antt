@@ -15,13 +15,13 @@ use Rattle.sql_text.specs.declared.named.NamedStatement.{NamedStatement}
 use Rattle.token_forms.specs.Classes.{class}
 use Rattle.sql_text.specs.Grammar.{Rule}
 use Rattle.token_forms.specs.Forms.{symbol_only, ◌<⨟◌, ◌⨟◌, ◌⨟>◌}
-use Rattle.sql_reader.specs.ReadGrammar.{Counted, counted, statement_form, counted_statements}
-use Rattle.sql_reader.specs.ReadGrammar.{rule_starts, rule_continues, right_side}
+use Rattle.sql_parser.specs.ReadGrammar.{Counted, counted, statement_form, counted_statements}
+use Rattle.sql_parser.specs.ReadGrammar.{rule_starts, rule_continues, right_side}
 use Rattle.token_forms.specs.Place.{SaysCode, place_of}
 use Rattle.sql_text.specs.Scripts.{IsScript}
-use Rattle.sql_reader.specs.Faults.{IsScriptFront, IsFull, IsFault, IsCode}
-use Rattle.sql_reader.proofs.Predictive.{agrees, predictive-counted}
-use Rattle.sql_reader.proofs.Accepted.{next, outcome, ReadWhole, ReadFront, script_read, script_written, full_read, full_written, front_read, front_written}
+use Rattle.sql_parser.specs.Faults.{IsScriptFront, IsFull, IsFault, IsCode}
+use Rattle.sql_parser.proofs.Predictive.{agrees, predictive-counted}
+use Rattle.sql_parser.proofs.Accepted.{next, outcome, ReadWhole, ReadFront, script_read, script_written, full_read, full_written, front_read, front_written}
 use Rattle.token_forms.proofs.Depth.{NestWithin-first}
 
 abbrev Ended : List Token → NamedStatement → Type 0

@@ -9,12 +9,12 @@ use Rattle.prefsql_lexer.specs.declared.token.Keyword.TheVariants.{Select}
 use Rattle.prefsql_lexer.specs.declared.token.Token.{Token}
 use Rattle.sql_text.specs.declared.named.NamedStatement.{NamedStatement}
 use Rattle.token_forms.specs.Classes.{class, word_class}
-use Rattle.sql_reader.specs.ReadGrammar.{Counted, counted}
-use Rattle.sql_reader.proofs.Accepted.{outcome}
+use Rattle.sql_parser.specs.ReadGrammar.{Counted, counted}
+use Rattle.sql_parser.proofs.Accepted.{outcome}
 use Rattle.token_forms.specs.Place.{SaysCode, place_of}
 use Rattle.sql_text.specs.Scripts.{IsScript}
-use Rattle.sql_reader.specs.Faults.{IsScriptFront, IsFault, IsCode}
-use Rattle.sql_reader.proofs.Faults.{script_found, fault_inside, fault_behind}
+use Rattle.sql_parser.specs.Faults.{IsScriptFront, IsFault, IsCode}
+use Rattle.sql_parser.proofs.Faults.{script_found, fault_inside, fault_behind}
 
 pub script_or_fault : (ts : List Token) (end : ℕ) (trees : List NamedStatement) (spot : Spot) → IsScript ts trees → IsFault ts end spot → ⊥
 script_or_fault ts end trees spot w f = f.0 trees w

@@ -12,10 +12,10 @@ use Rattle.query_tree.specs.declared.query.OrderName.{OrderName}
 use Rattle.query_tree.specs.declared.query.OrderName.TheVariants.{Name, Position}
 use Rattle.sql_tree.specs.declared.tree.SqlQuery.{SqlQuery, roll-SqlQuery, out-SqlQuery}
 use Rattle.sql_text.specs.declared.named.NamedStatement.{NamedStatement}
-use Rattle.sql_reader.specs.NamesMeant.{positions_from}
-use Rattle.sql_reader.specs.Scope.{ScopeColumn}
-use Rattle.sql_reader.specs.Owed.{Fault, fault, fault_if, first_spot, either_spot}
-use Rattle.sql_reader.specs.Reading.{query_reading}
+use Rattle.sql_resolver.specs.NamesMeant.{positions_from}
+use Rattle.sql_resolver.specs.Scope.{ScopeColumn}
+use Rattle.sql_resolver.specs.Owed.{Fault, fault, fault_if, first_spot, either_spot}
+use Rattle.sql_resolver.specs.Reading.{query_reading}
 
 -- ---- the order
 

@@ -15,15 +15,15 @@ use Rattle.token_forms.specs.Classes.{class}
 use Rattle.sql_text.specs.declared.named.NamedStatement.{NamedStatement}
 use Rattle.sql_text.specs.Grammar.{Grammar, Rule, condition_rule, results_rule, query_rule, statement, ended, script, production}
 use Rattle.sql_text.specs.Scripts.{IsWhole, IsScript}
-use Rattle.sql_reader.specs.ReadGrammar.{Counted, counted, statement_form, rule_starts, rule_continues, right_side}
-use Rattle.sql_reader.proofs.Predictive.{agrees, predictive-counted}
-use Rattle.sql_reader.proofs.SameGrammar.{Same-cond, Same-results, Same-query, Same-statement, Same-ended}
+use Rattle.sql_parser.specs.ReadGrammar.{Counted, counted, statement_form, rule_starts, rule_continues, right_side}
+use Rattle.sql_parser.proofs.Predictive.{agrees, predictive-counted}
+use Rattle.sql_parser.proofs.SameGrammar.{Same-cond, Same-results, Same-query, Same-statement, Same-ended}
 use Rattle.prefsql_lexer.specs.Bounds.{NestWithin}
 use Rattle.grammar_forms.proofs.Nesting.{stays_first, stays_rest, IsWhole-limited, IsFront-limited, IsWhole-level}
 use Rattle.token_forms.proofs.Depth.{StaysWithin, rises, falls, NestWithin-stays}
-use Rattle.sql_reader.proofs.Depth.{production_keeps, script_keeps, many_keeps, ended_keeps, last_keeps}
-use Rattle.sql_reader.proofs.Counted.{ended_form, shape_of, counted_of, front_shape, front_counted}
-use Rattle.sql_reader.specs.Faults.{IsFront, IsScriptFront}
+use Rattle.sql_parser.proofs.Depth.{production_keeps, script_keeps, many_keeps, ended_keeps, last_keeps}
+use Rattle.sql_parser.proofs.Counted.{ended_form, shape_of, counted_of, front_shape, front_counted}
+use Rattle.sql_parser.specs.Faults.{IsFront, IsScriptFront}
 
 abbrev pub next : {A : Type 0} → Grammar A → List ℕ
 next f = continues Token Rule class rule_starts rule_continues f

@@ -5,7 +5,7 @@ use Rattle.grammar_forms.proofs.Predictive.{AgreesAt}
 use Rattle.prefsql_lexer.specs.declared.token.Token.{Token}
 use Rattle.token_forms.specs.Classes.{class}
 use Rattle.sql_text.specs.Grammar.{Grammar, Rule, condition_rule, results_rule, query_rule, case, factor, sum_sign, later_term, sum, comparison, between, sums, member, null_test, exists, item, list, derived, from, from_items}
-use Rattle.sql_reader.specs.ReadGrammar.{negatable, rest_form, test_form, negated, conjunction, condition, when_form, whens_form, results_form, filter_form, query_form, statement_form, counted, rule_starts, rule_continues, right_side}
+use Rattle.sql_parser.specs.ReadGrammar.{negatable, rest_form, test_form, negated, conjunction, condition, when_form, whens_form, results_form, filter_form, query_form, statement_form, counted, rule_starts, rule_continues, right_side}
 use Rattle.token_forms.specs.Columns.{column, optional_sign, number_form, literal, op, direction, order, orders}
 use Rattle.token_forms.specs.Phrases.{alias, distinctness, negation, ordering, from as table}
 

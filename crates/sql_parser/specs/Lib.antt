@@ -1,0 +1,2 @@
+pub mod ReadGrammar
+pub mod Faults

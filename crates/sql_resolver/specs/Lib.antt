@@ -1,0 +1,5 @@
+pub mod Scope
+pub mod NamesMeant
+pub mod Owed
+pub mod Reading
+pub mod Statements
