@@ -4,7 +4,14 @@ use Rattle.std.specs.Prelude.{Option, Some, None, List, [], ◌∷◌, ◌++◌,
 use Rattle.std.specs.List.{flat_map}
 use Rattle.prefsql_tables.specs.Table.{Tables, IsTableAt}
 use Rattle.sql_tree.specs.declared.tree.SqlCond.TheOpen.{SqlCond-F, SqlScalar-F, SqlSource-F, SqlFrom-F, SqlItem-F, SqlQuery-F, SqlWhen-F, SumTerm-F}
+use Rattle.sql_tree.specs.declared.tree.SqlCond.{SqlCond, fold-SqlCond}
+use Rattle.sql_tree.specs.declared.tree.SqlScalar.{SqlScalar, fold-SqlScalar}
+use Rattle.sql_tree.specs.declared.tree.SqlSource.{SqlSource, fold-SqlSource}
+use Rattle.sql_tree.specs.declared.tree.SqlFrom.{SqlFrom, fold-SqlFrom}
+use Rattle.sql_tree.specs.declared.tree.SqlItem.{SqlItem, fold-SqlItem}
 use Rattle.sql_tree.specs.declared.tree.SqlQuery.{SqlQuery, fold-SqlQuery}
+use Rattle.sql_tree.specs.declared.tree.SqlWhen.{SqlWhen, fold-SqlWhen}
+use Rattle.sql_tree.specs.declared.tree.SumTerm.{SumTerm, fold-SumTerm}
 use Rattle.sql_tree.specs.declared.tree.SqlTable.{SqlTable}
 
 -- the table has, at its position in the set, this name and these columns
@@ -61,11 +68,60 @@ when_step w = w.cond ++ w.value
 abbrev pub term_step : Level SumTerm-F → List SqlTable
 term_step term = term.scalar
 
+-- the tables that each part names, at every depth
+unfoldable pub cond_tables : SqlCond → List SqlTable
+cond_tables =
+    fold-SqlCond _ _ _ _ _ _ _ _ cond_step scalar_step source_step
+    from_step item_step query_step when_step term_step
+
+unfoldable pub scalar_tables : SqlScalar → List SqlTable
+scalar_tables =
+    fold-SqlScalar _ _ _ _ _ _ _ _ cond_step scalar_step source_step
+    from_step item_step query_step when_step term_step
+
+unfoldable pub source_tables : SqlSource → List SqlTable
+source_tables =
+    fold-SqlSource _ _ _ _ _ _ _ _ cond_step scalar_step source_step
+    from_step item_step query_step when_step term_step
+
+unfoldable pub from_tables : SqlFrom → List SqlTable
+from_tables =
+    fold-SqlFrom _ _ _ _ _ _ _ _ cond_step scalar_step source_step
+    from_step item_step query_step when_step term_step
+
+unfoldable pub item_tables : SqlItem → List SqlTable
+item_tables =
+    fold-SqlItem _ _ _ _ _ _ _ _ cond_step scalar_step source_step
+    from_step item_step query_step when_step term_step
+
+unfoldable pub when_tables : SqlWhen → List SqlTable
+when_tables =
+    fold-SqlWhen _ _ _ _ _ _ _ _ cond_step scalar_step source_step
+    from_step item_step query_step when_step term_step
+
+unfoldable pub term_tables : SumTerm → List SqlTable
+term_tables =
+    fold-SumTerm _ _ _ _ _ _ _ _ cond_step scalar_step source_step
+    from_step item_step query_step when_step term_step
+
 -- the tables that the query names, at every depth
 unfoldable pub tables_of : SqlQuery → List SqlTable
 tables_of =
     fold-SqlQuery _ _ _ _ _ _ _ _ cond_step scalar_step source_step
     from_step item_step query_step when_step term_step
 
+-- the tables in the part that may be left out
+abbrev pub filter_tables : Option SqlCond → List SqlTable
+filter_tables None = []
+filter_tables (Some cond) = cond_tables cond
+
+abbrev pub otherwise_tables : Option SqlScalar → List SqlTable
+otherwise_tables None = []
+otherwise_tables (Some scalar) = scalar_tables scalar
+
 abbrev pub FitsTables : Tables → SqlQuery → Type 0
 FitsTables tables query = All (IsTableOf tables) (tables_of query)
+
+-- each of these tables is there
+unfoldable pub AreThere : Tables → List SqlTable → Type 0
+AreThere tables named = All (IsTableOf tables) named
