@@ -2,8 +2,10 @@ pub mod Auxiliary
 pub mod Columns
 pub mod CondDepths
 pub mod Depths
+pub mod Fitting
 pub mod Formed
 pub mod Judgements
+pub mod NamedParts
 pub mod Names
 pub mod Put
 pub mod Queries
@@ -11,6 +13,7 @@ pub mod RankDepths
 pub mod Ranks
 pub mod Rivals
 pub mod Tables
+pub mod TablesRead
 pub mod Validity
 pub mod WholeDepth
 pub mod WholeFormed
