@@ -1,0 +1,7 @@
+//! The bench of the program: its table, its three statements and its summary.
+#![tactic(auto)]
+
+mod draws;
+mod table;
+
+pub use table::{bench_table, bench_tables};
