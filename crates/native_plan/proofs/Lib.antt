@@ -1,0 +1,6 @@
+pub mod Arms
+pub mod Found
+pub mod Lists
+pub mod Nodes
+pub mod Parts
+pub mod Rows
