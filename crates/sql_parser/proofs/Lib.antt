@@ -1,7 +1,7 @@
-pub mod Predictive
-pub mod Counted
-pub mod SameGrammar
 pub mod Depth
+pub mod Predictive
+pub mod SameGrammar
+pub mod Language
 pub mod Accepted
-pub mod Faults
 pub mod OneFault
+pub mod Plain

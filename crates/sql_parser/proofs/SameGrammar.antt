@@ -8,8 +8,8 @@ use Rattle.prefsql_lexer.specs.declared.token.Symbol.TheVariants as symbol
 use Rattle.token_forms.specs.Classes.{class}
 use Rattle.sql_text.specs.declared.named.NamedCond.{And, Or}
 use Rattle.sql_text.specs.declared.named.NamedWhen.{NamedWhen}
-use Rattle.sql_text.specs.Grammar.{Grammar, Rule, condition_rule, sum, comparison, between, member, null_test, exists, negated_rest, test_tree, negated_tree, when_tree, list, from_items, query_tree, statement_tree, rest, test, neg, conj, cond, when, whens, results, filter, query, statement, ended}
-use Rattle.sql_parser.specs.ReadGrammar.{negatable, rest_form, test_form, negated, conjunction, condition, when_form, whens_form, results_form, filter_form, query_form, statement_form}
+use Rattle.sql_text.specs.Grammar.{Grammar, Rule, condition_rule, sum, comparison, between, member, null_test, exists, negated_rest, test_tree, negated_tree, when_tree, list, from_items, query_tree, statement_tree, rest, test, neg, conj, cond, when, whens, results, filter, query, statement}
+use Rattle.sql_parser.specs.ReadGrammar.{negatable, rest_form, test_form, negated, conjuncts, conjunction, disjuncts, condition, when_form, whens_form, otherwise, results_form, filter_form, query_form, statement_form}
 use Rattle.token_forms.specs.Forms.{◌⨟>◌, ◌<⨟◌, word_at, symbol_only, word_only, separated, in_parens, chain}
 use Rattle.token_forms.specs.Phrases.{distinctness, negation, ordering}
 
@@ -97,11 +97,11 @@ module _ (R : (A : Type 0) → Rule A → Wholes Token A) (S : (A : Type 0) → 
   Same-neg = under negated_tree (both negation test) (both negation test_form) (seq negation negation test test_form (same negation) Same-test)
 
   Same-conj : Same conj conjunction
-  unfolding conj conjunction
+  unfolding conj conjuncts conjunction
   Same-conj = under (chain And) (separated (word_only word.And) neg) (separated (word_only word.And) negated) (listed (word_only word.And) neg negated Same-neg)
 
   pub Same-cond : Same cond condition
-  unfolding cond condition
+  unfolding cond disjuncts condition
   Same-cond = under (chain Or) (separated (word_only word.Or) conj) (separated (word_only word.Or) conjunction) (listed (word_only word.Or) conj conjunction Same-conj)
 
   -- ---- results
@@ -120,7 +120,7 @@ module _ (R : (A : Type 0) → Rule A → Wholes Token A) (S : (A : Type 0) → 
       (seq when when_form (many when) (many when_form) Same-when (Equal-many Token Rule class R S when when_form Same-when))
 
   pub Same-results : Same results results_form
-  unfolding results results_form
+  unfolding results otherwise results_form
   Same-results =
       let e = option (word_only word.Else ⨟> sum) in
       seq whens whens_form e e Same-whens (same e)
@@ -148,7 +148,3 @@ module _ (R : (A : Type 0) → Rule A → Wholes Token A) (S : (A : Type 0) → 
   pub Same-statement : Same statement statement_form
   unfolding statement statement_form
   Same-statement = under statement_tree (both query ordering) (both query_form ordering) (seq query query_form ordering ordering Same-query (same ordering))
-
-  pub Same-ended : Same ended (statement_form <⨟ symbol_only symbol.Semicolon)
-  unfolding ended
-  Same-ended = seq_first statement statement_form (symbol_only symbol.Semicolon) (symbol_only symbol.Semicolon) Same-statement (same (symbol_only symbol.Semicolon))

@@ -1,2 +1,3 @@
 pub mod ReadGrammar
+pub mod Outcome
 pub mod Faults

@@ -1,0 +1,39 @@
+-- What both languages have is read in an SQL script as it is by itself.
+use Rattle.std.proofs.Common.{◌≡◌, ℕ, List, refl}
+use Rattle.prefsql_lexer.specs.declared.token.Token.{Token}
+use Rattle.token_forms.specs.Columns.{column, optional_sign, number_form, literal, op, direction, order, orders}
+use Rattle.token_forms.specs.Phrases.{alias, from as table, distinctness, negation, ordering}
+use Rattle.token_forms.specs.Plain.{plain}
+use Rattle.sql_parser.specs.Outcome.{outcome}
+
+pub plain_column : (n : ℕ) (ts : List Token) → outcome n column ts ≡ plain column ts
+unfolding column
+plain_column n ts = refl
+
+pub plain_literal : (n : ℕ) (ts : List Token) → outcome n literal ts ≡ plain literal ts
+unfolding optional_sign number_form literal
+plain_literal n ts = refl
+
+pub plain_op : (n : ℕ) (ts : List Token) → outcome n op ts ≡ plain op ts
+unfolding op
+plain_op n ts = refl
+
+pub plain_negation : (n : ℕ) (ts : List Token) → outcome n negation ts ≡ plain negation ts
+unfolding negation
+plain_negation n ts = refl
+
+pub plain_alias : (n : ℕ) (ts : List Token) → outcome n alias ts ≡ plain alias ts
+unfolding alias
+plain_alias n ts = refl
+
+pub plain_table : (n : ℕ) (ts : List Token) → outcome n table ts ≡ plain table ts
+unfolding alias table
+plain_table n ts = refl
+
+pub plain_distinctness : (n : ℕ) (ts : List Token) → outcome n distinctness ts ≡ plain distinctness ts
+unfolding distinctness
+plain_distinctness n ts = refl
+
+pub plain_ordering : (n : ℕ) (ts : List Token) → outcome n ordering ts ≡ plain ordering ts
+unfolding direction order orders ordering
+plain_ordering n ts = refl
