@@ -5,3 +5,5 @@ pub mod Language
 pub mod Accepted
 pub mod OneFault
 pub mod Plain
+pub mod Turns
+pub mod Choices

@@ -9,7 +9,7 @@ use Rattle.token_forms.specs.Columns.{column, optional_sign, number_form, litera
 use Rattle.token_forms.specs.Phrases.{alias, distinctness, negation, ordering, from as table}
 use Rattle.script_forms.specs.Counted.{counted}
 use Rattle.sql_text.specs.Grammar.{Grammar, Rule, condition_rule, results_rule, query_rule, case, factor, sum_sign, later_term, sum, comparison, between, sums, member, null_test, exists, item, list, derived, from, from_items}
-use Rattle.sql_parser.specs.ReadGrammar.{negatable, rest_form, test_form, negated, conjuncts, conjunction, disjuncts, condition, when_form, whens_form, otherwise, results_form, filter_form, query_form, statement_form}
+use Rattle.sql_parser.specs.ReadGrammar.{negatable, rest_form, compared, test_form, negated, conjuncts, conjunction, disjuncts, condition, when_form, whens_form, otherwise, results_form, filter_form, query_form, statement_form}
 use Rattle.sql_parser.specs.Outcome.{rule_starts, rule_continues, right_side}
 
 abbrev pub first : {A : Type 0} → Grammar A → List ℕ
@@ -22,13 +22,13 @@ abbrev pub predictive : {A : Type 0} → Grammar A → Bool
 predictive f = is_predictive Token Rule class rule_starts rule_continues f
 
 pub agrees : (A : Type 0) (p : Rule A) → AgreesAt Token Rule class rule_starts rule_continues right_side A p
-unfolding column optional_sign number_form literal case factor sum_sign later_term sum negation op comparison between sums member null_test exists negatable rest_form test_form negated conjuncts conjunction disjuncts condition alias distinctness direction order orders ordering item list derived table from from_items when_form whens_form otherwise results_form filter_form query_form
+unfolding column optional_sign number_form literal case factor sum_sign later_term sum negation op comparison between sums member null_test exists negatable rest_form compared test_form negated conjuncts conjunction disjuncts condition alias distinctness direction order orders ordering item list derived table from from_items when_form whens_form otherwise results_form filter_form query_form
 agrees A condition_rule = record { decides = refl; not_empty = refl; starts_with = refl; goes_on_with = refl }
 agrees A results_rule = record { decides = refl; not_empty = refl; starts_with = refl; goes_on_with = refl }
 agrees A query_rule = record { decides = refl; not_empty = refl; starts_with = refl; goes_on_with = refl }
 
 pub predictive-counted : predictive (counted statement_form 64) ≡ true
-unfolding column optional_sign number_form literal case factor sum_sign later_term sum negation op comparison between sums member null_test exists negatable rest_form test_form negated conjuncts conjunction disjuncts condition alias distinctness direction order orders ordering item list derived table from from_items when_form whens_form otherwise results_form filter_form query_form statement_form counted
+unfolding column optional_sign number_form literal case factor sum_sign later_term sum negation op comparison between sums member null_test exists negatable rest_form compared test_form negated conjuncts conjunction disjuncts condition alias distinctness direction order orders ordering item list derived table from from_items when_form whens_form otherwise results_form filter_form query_form statement_form counted
 predictive-counted = refl
 
 pub statement-begins : first statement_form ≡ word_class Select ∷ []
@@ -54,15 +54,15 @@ unfolding column optional_sign number_form literal case factor sum_sign later_te
 predictive-sum = refl
 
 pub predictive-negated : predictive negated ≡ true
-unfolding column optional_sign number_form literal case factor sum_sign later_term sum negation op comparison between sums member null_test exists negatable rest_form test_form negated conjuncts conjunction disjuncts condition
+unfolding column optional_sign number_form literal case factor sum_sign later_term sum negation op comparison between sums member null_test exists negatable rest_form compared test_form negated conjuncts conjunction disjuncts condition
 predictive-negated = refl
 
 pub predictive-conjunction : predictive conjunction ≡ true
-unfolding column optional_sign number_form literal case factor sum_sign later_term sum negation op comparison between sums member null_test exists negatable rest_form test_form negated conjuncts conjunction disjuncts condition
+unfolding column optional_sign number_form literal case factor sum_sign later_term sum negation op comparison between sums member null_test exists negatable rest_form compared test_form negated conjuncts conjunction disjuncts condition
 predictive-conjunction = refl
 
 pub predictive-when : predictive when_form ≡ true
-unfolding column optional_sign number_form literal case factor sum_sign later_term sum negation op comparison between sums member null_test exists negatable rest_form test_form negated conjuncts conjunction disjuncts condition when_form
+unfolding column optional_sign number_form literal case factor sum_sign later_term sum negation op comparison between sums member null_test exists negatable rest_form compared test_form negated conjuncts conjunction disjuncts condition when_form
 predictive-when = refl
 
 pub when-not-empty : optional when_form ≡ false

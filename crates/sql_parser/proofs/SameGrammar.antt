@@ -9,7 +9,7 @@ use Rattle.token_forms.specs.Classes.{class}
 use Rattle.sql_text.specs.declared.named.NamedCond.{And, Or}
 use Rattle.sql_text.specs.declared.named.NamedWhen.{NamedWhen}
 use Rattle.sql_text.specs.Grammar.{Grammar, Rule, condition_rule, sum, comparison, between, member, null_test, exists, negated_rest, test_tree, negated_tree, when_tree, list, from_items, query_tree, statement_tree, rest, test, neg, conj, cond, when, whens, results, filter, query, statement}
-use Rattle.sql_parser.specs.ReadGrammar.{negatable, rest_form, test_form, negated, conjuncts, conjunction, disjuncts, condition, when_form, whens_form, otherwise, results_form, filter_form, query_form, statement_form}
+use Rattle.sql_parser.specs.ReadGrammar.{negatable, rest_form, compared, test_form, negated, conjuncts, conjunction, disjuncts, condition, when_form, whens_form, otherwise, results_form, filter_form, query_form, statement_form}
 use Rattle.token_forms.specs.Forms.{◌⨟>◌, ◌<⨟◌, word_at, symbol_only, word_only, separated, in_parens, chain}
 use Rattle.token_forms.specs.Phrases.{distinctness, negation, ordering}
 
@@ -84,7 +84,7 @@ module _ (R : (A : Type 0) → Rule A → Wholes Token A) (S : (A : Type 0) → 
       (then (either (either j n) c) (either (either n j) c) (either n (either j c)) (sides (either j n) (either n j) c c (swap j n) (same c)) (Equal-choices Token Rule class R S n j c)))
 
   Same-test : Same test test_form
-  unfolding test test_form
+  unfolding test compared test_form
   Same-test =
       let p = in_parens (rule condition_rule) in
       let s = map test_tree (both sum rest) in

@@ -1,3 +1,4 @@
 pub mod ReadGrammar
 pub mod Outcome
 pub mod Faults
+pub mod Script

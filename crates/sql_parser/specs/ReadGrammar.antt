@@ -25,8 +25,12 @@ negatable = negated_rest <$> negation ⨟ (between ∣ member)
 unfoldable pub rest_form : Grammar Rest
 rest_form = null_test ∣ negatable ∣ comparison
 
+-- sum rest
+unfoldable pub compared : Grammar NamedCond
+compared = test_tree <$> sum ⨟ rest_form
+
 unfoldable pub test_form : Grammar NamedCond
-test_form = in_parens (rule condition_rule) ∣ test_tree <$> sum ⨟ rest_form ∣ exists
+test_form = in_parens (rule condition_rule) ∣ compared ∣ exists
 
 -- [NOT] test
 unfoldable pub negated : Grammar NamedCond
