@@ -1,2 +1,3 @@
 pub mod BenchTable
 pub mod Draws
+pub mod Statements

@@ -2,6 +2,8 @@
 #![tactic(auto)]
 
 mod draws;
+mod statements;
 mod table;
 
+pub use statements::bench_blocks;
 pub use table::{bench_table, bench_tables};

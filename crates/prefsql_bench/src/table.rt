@@ -1,6 +1,6 @@
 //! The table of the bench.
-ghost use Rattle.std.specs.Prelude.{◌≡◌, ◌+◌, ◌*◌, ◌<◌, ◌≤◌, map, IfOk, OnOk};
-ghost use Rattle.prefsql_bench.specs.BenchTable.{bench_columns, bench_data, bench_numbers, bench_row, bench_set, number_column, number_value};
+ghost use Rattle.std.specs.Prelude.{◌≡◌, ◌+◌, ◌*◌, ◌<◌, ◌≤◌, map, IfOk};
+ghost use Rattle.prefsql_bench.specs.BenchTable.{bench_columns, bench_data, bench_numbers, bench_set, number_column, number_value};
 ghost use Rattle.prefsql_bench.specs.Draws.{state_after};
 
 use crate::draws::Draws;
@@ -83,9 +83,18 @@ fn numbers(place: u32, draws: &mut Draws) -> [u64; 5]
 fn row(alloc: Global, numbers: &[u64]) -> Result<AnswerRow, Memory>
     ensures { IfOk result (λ row. row.cells ≡ map number_value numbers.now) }
 {
-    let mut cells = List::new(alloc);
+    Ok(AnswerRow {
+        cells: number_values(alloc, numbers)?,
+    })
+}
+
+/// The numbers as values.
+pub(crate) fn number_values(alloc: Global, numbers: &[u64]) -> Result<List<Value>, Memory>
+    ensures { IfOk result (λ values. values ≡ map number_value numbers.now) }
+{
+    let mut values = List::new(alloc);
     for number in numbers {
-        cells.push(Value::Num(i128::from(*number)))?;
+        values.push(Value::Num(i128::from(*number)))?;
     }
-    Ok(AnswerRow { cells })
+    Ok(values)
 }
