@@ -1,3 +1,4 @@
 pub mod BlockLemmas
 pub mod DrawLemmas
+pub mod LineLemmas
 pub mod NameLemmas

@@ -1,3 +1,4 @@
 pub mod BenchTable
 pub mod Draws
 pub mod Statements
+pub mod Summary
