@@ -15,6 +15,7 @@ pub mod JudgedEquations
 pub mod NamesShown
 pub mod Readings
 pub mod Back
+pub mod StatementsWritten
 pub mod ReadingBack
 pub mod Depths
 pub mod TablesNamed

@@ -31,11 +31,12 @@ use Rattle.sql_tree.specs.declared.tree.SqlItem.{SqlItem, roll-SqlItem}
 use Rattle.sql_tree.specs.declared.tree.SqlQuery.{SqlQuery, roll-SqlQuery, map-SqlQuery, out-SqlQuery}
 use Rattle.sql_tree.specs.declared.tree.SqlWhen.{SqlWhen, roll-SqlWhen}
 use Rattle.sql_tree.specs.declared.tree.SumTerm.{SumTerm, roll-SumTerm}
+use Rattle.sql_read_back.proofs.WrittenTokens.{depth_behind}
 use Rattle.sql_read_back.proofs.Depths.{depth_cond, depth_scalar, depth_source, depth_from, depth_item, depth_when, depth_term, depth-And, depth-Or, depth-Not, depth-Compare, depth-Between, depth-OneOf, depth-IsNull, depth-Exists, depth-Column, depth-Number, depth-Chars, depth-Sum, depth-Case, depth-Table, depth-Derived, depth_from_is, depth_item_is, depth_when_is, depth_term_is, depth_query_is}
 
--- after each token the depth is within the limit
+-- after each token the depth is within the limit, and at the end nothing is open
 abbrev pub PiecesNest : ℕ → ℕ → List Piece → Type 0
-PiecesNest limit d [] = Unit {0}
+PiecesNest limit d [] = d ≡ 0
 PiecesNest limit d (space ∷ ps) = PiecesNest limit d ps
 PiecesNest limit d (mark kind ∷ ps) = (depth_after d kind ≤ limit) × PiecesNest limit (depth_after d kind) ps
 
@@ -43,6 +44,11 @@ pub tokens_nest : (limit d at : ℕ) (ps : List Piece) → PiecesNest limit d ps
 tokens_nest limit d at [] n = tt
 tokens_nest limit d at (space ∷ ps) n = tokens_nest limit d (at + 1) ps n
 tokens_nest limit d at (mark kind ∷ ps) n = (n.0, tokens_nest limit (depth_after d kind) (at + length (token_bytes kind)) ps n.1)
+
+pub pieces_close : (limit d : ℕ) (ps : List Piece) → PiecesNest limit d ps → depth_behind d ps ≡ 0
+pieces_close limit d [] n = n
+pieces_close limit d (space ∷ ps) n = pieces_close limit d ps n
+pieces_close limit d (mark kind ∷ ps) n = pieces_close limit (depth_after d kind) ps n.1
 
 module _ (limit : ℕ) where
   -- pieces that raise the depth by at most this, and leave it as it was
@@ -497,13 +503,19 @@ module _ (limit : ℕ) where
       let flat : Nests k list = nests_weaker 0 k list (omega arith) (subst (λ z. Nests z list) (no_depth (key ∷ more)) body) in
       word_then k word.Order (word_of word.By ⎵ list) (λ d. refl) (word_then k word.By list (λ d. refl) flat)
 
-  pub statement_nests : (q : SqlQuery) → nesting q ≤ limit → NestWithin limit 0 (tokens_from 0 (statement_pieces q))
-  statement_nests q le =
+  statement_walks : (q : SqlQuery) → nesting q ≤ limit → PiecesNest limit 0 (statement_pieces q)
+  statement_walks q le =
       let k = nesting q in
       let ps = (query_pieces q).pieces [] in
       let os = order_pieces (out-SqlQuery q).order in
       let end : List Piece = mark (SymbolKind symbol.Semicolon) ∷ [] in
       let front = nests_append k ps os (query_nests q []) (order_nests k (out-SqlQuery q).order) in
       let all = nests_append k (ps ++ os) end front (nests_mark k (SymbolKind symbol.Semicolon) [] (λ d. refl) (nests_none k)) in
-      let walked : PiecesNest limit 0 (statement_pieces q ++ []) = all 0 (omega (arith, le)) [] tt in
-      tokens_nest limit 0 0 (statement_pieces q) (subst (λ z. PiecesNest limit 0 z) (append-nil (statement_pieces q)) walked)
+      subst (λ z. PiecesNest limit 0 z) (append-nil (statement_pieces q)) (all 0 (omega (arith, le)) [] refl)
+
+  pub statement_nests : (q : SqlQuery) → nesting q ≤ limit → (at : ℕ) → NestWithin limit 0 (tokens_from at (statement_pieces q))
+  statement_nests q le at = tokens_nest limit 0 at (statement_pieces q) (statement_walks q le)
+
+  -- what is opened in a statement is closed in it
+  pub statement_closes : (q : SqlQuery) → nesting q ≤ limit → depth_behind 0 (statement_pieces q) ≡ 0
+  statement_closes q le = pieces_close limit 0 (statement_pieces q) (statement_walks q le)

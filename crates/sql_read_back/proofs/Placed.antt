@@ -16,10 +16,10 @@ Placed {A = A} f pieces Q = (at : ℕ) → (n : ℕ) × (v : A) × IsWhole n f (
 
 -- ---- levels
 
-deeper_left : {A : Type 0} (m n : ℕ) (f : Grammar A) (ts : List Token) (v : A) → IsWhole n f ts v → IsWhole (m + n) f ts v
+pub deeper_left : {A : Type 0} (m n : ℕ) (f : Grammar A) (ts : List Token) (v : A) → IsWhole n f ts v → IsWhole (m + n) f ts v
 deeper_left m n f ts v w = IsWhole-deeper Token Rule class production m n f ts v w
 
-deeper_right : {A : Type 0} (m n : ℕ) (f : Grammar A) (ts : List Token) (v : A) → IsWhole m f ts v → IsWhole (m + n) f ts v
+pub deeper_right : {A : Type 0} (m n : ℕ) (f : Grammar A) (ts : List Token) (v : A) → IsWhole m f ts v → IsWhole (m + n) f ts v
 deeper_right m n f ts v w =
     let same : n + m ≡ m + n = omega arith in
     subst (λ z. IsWhole z f ts v) same (IsWhole-deeper Token Rule class production n m f ts v w)

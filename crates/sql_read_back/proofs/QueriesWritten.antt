@@ -1,5 +1,5 @@
 -- Queries, statements and scripts are written by their forms.
-use Rattle.std.proofs.Common.{◌≡◌, ℕ, ℤ, pos, ◌+◌, Bool, true, false, List, [], ◌∷◌, ◌++◌, map, refl, sym, ap, subst, append-nil, Option, Some, None}
+use Rattle.std.proofs.Common.{◌≡◌, ℕ, ℤ, pos, ◌+◌, Bool, true, false, List, [], ◌∷◌, ◌++◌, map, refl, sym, ap, subst, Option, Some, None}
 use Rattle.grammar_forms.specs.Form.{both, option, rule}
 use Rattle.prefsql_lexer.specs.declared.token.TokenKind.TheVariants.{Number}
 use Rattle.prefsql_lexer.specs.declared.token.Keyword.TheVariants as word
@@ -17,8 +17,8 @@ use Rattle.sql_text.specs.declared.named.NamedFrom.{NamedFrom, Table, Derived}
 use Rattle.sql_text.specs.declared.named.NamedItem.{NamedItem}
 use Rattle.sql_text.specs.declared.named.NamedQuery.{NamedQuery}
 use Rattle.sql_text.specs.declared.named.NamedStatement.{NamedStatement}
-use Rattle.sql_text.specs.Grammar.{Grammar, query_rule, cond, sum, item, item_tree, list, derived, derived_tree, from, from_items, filter, query, query_tree, statement, statement_tree, ended, script}
-use Rattle.sql_text.specs.Pieces.{Piece, space, mark, tokens_from}
+use Rattle.sql_text.specs.Grammar.{Grammar, query_rule, cond, sum, item, item_tree, list, derived, derived_tree, from, from_items, filter, query, query_tree, statement, statement_tree, ended}
+use Rattle.sql_text.specs.Pieces.{Piece, space, mark}
 use Rattle.sql_text.specs.Text.{symbol_mark, name_mark, word_of, ◌⎵◌, in_parentheses, listed, distinct_if, direction_word, key_pieces, order_pieces}
 use Rattle.sql_read_back.proofs.Apart.{Follows, apart_mark, follows_none, follows_space, follows_comma, follows_semicolon}
 use Rattle.sql_read_back.proofs.Placed.{Each, placed_token}
@@ -203,27 +203,13 @@ order_follows : (keys : List SortKey) → Follows (order_pieces keys)
 order_follows [] = follows_none
 order_follows (key ∷ keys) = follows_space (word_of word.Order ⎵ word_of word.By ⎵ listed (map key_pieces (key ∷ keys)))
 
--- ---- a script of one statement
+-- ---- a statement with its semicolon
 
--- the script is one statement, of which this is told
-pub record IsOne (R : NamedStatement → Type 0) (statements : List NamedStatement) : Type 0 where
-  pub one : NamedStatement
-  pub is : statements ≡ one ∷ []
-  pub holds : R one
-
-pub script_written : (ps : List Piece) (keys : List SortKey) (P : NamedQuery → Type 0) (R : NamedStatement → Type 0) → ((q : NamedQuery) (os : List OrderTree) → P q → Each IsKey keys os → R (record { query = q; order = os })) → AreShort keys →
-    Written query ps P → Written script (ps ++ order_pieces keys ++ symbol_mark symbol.Semicolon ∷ []) (IsOne R)
-unfolding script ended statement
-script_written ps keys P R holds are w =
+pub ended_written : (ps : List Piece) (keys : List SortKey) (P : NamedQuery → Type 0) (R : NamedStatement → Type 0) → ((q : NamedQuery) (os : List OrderTree) → P q → Each IsKey keys os → R (record { query = q; order = os })) → AreShort keys →
+    Written query ps P → Written ended (ps ++ order_pieces keys ++ symbol_mark symbol.Semicolon ∷ []) R
+unfolding ended statement
+ended_written ps keys P R holds are w =
     let body = ps ++ order_pieces keys in
-    let whole = body ++ symbol_mark symbol.Semicolon ∷ [] in
     let one : Written statement body R = mapped statement_tree (both query ordering) body (λ v. P v.0 × Each IsKey keys v.1) R (λ v q. holds v.0 v.1 q.0 q.1)
     (sequence query ordering ps (order_pieces keys) P (Each IsKey keys) (λ v. P v.0 × Each IsKey keys v.1) (λ a b p q. (p, q)) (order_follows keys) w (order_written keys are)) in
-    let two : Written ended whole R = before statement (symbol_only symbol.Semicolon) body (symbol_mark symbol.Semicolon ∷ []) R (λ _. Unit {0}) (follows_semicolon []) one (symbol_written symbol.Semicolon) in
-    let V : List NamedStatement × Option NamedStatement → Type 0 = λ v. (s : NamedStatement) × (v.0 ≡ s ∷ []) × (v.1 ≡ None) × R s in
-    record {
-      placed = (λ at.
-          let t = two.placed at in
-          (t.0, t.1 ∷ [], ((t.1 ∷ [], None), (tokens_from at whole, [], sym (append-nil (tokens_from at whole)), (tokens_from at whole, [], sym (append-nil (tokens_from at whole)), t.2, refl), refl), refl), record { one = t.1; is = refl; holds = t.3 }));
-      apart = two.apart;
-    }
+    before statement (symbol_only symbol.Semicolon) body (symbol_mark symbol.Semicolon ∷ []) R (λ _. Unit {0}) (follows_semicolon []) one (symbol_written symbol.Semicolon)

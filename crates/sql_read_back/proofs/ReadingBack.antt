@@ -1,11 +1,10 @@
--- The text of a well-formed query reads as that query alone.
-use Rattle.std.proofs.Common.{◌≡◌, ℕ, pos, ◌+◌, ◌-◌, Bool, true, false, ◌||◌, ◌&&◌, List, [], ◌∷◌, ◌++◌, map, length, refl, sym, ap, ◌∙◌, arith, Option, Ok}
+-- The texts of well-formed queries, one after the other, read as these queries.
+use Rattle.std.proofs.Common.{◌≡◌, ℕ, pos, ◌+◌, ◌-◌, ◌≤◌, Bool, true, false, ◌||◌, ◌&&◌, List, [], ◌∷◌, ◌++◌, map, length, refl, sym, ap, ◌∙◌, arith, Option, Ok}
 use Rattle.std.specs.Prelude.{IsUtf8, nat_lt, nat_le, ◌==◌}
 use Rattle.std.specs.List.{list_all, flat_map}
 use Rattle.std.specs.Option.{option_map}
 use Rattle.std.proofs.lemmas.Bool.{and_parts}
 use Rattle.std.proofs.lemmas.Bool.Decides.{nat_tests}
-use Rattle.prefsql_lexer.specs.Bounds.{NestWithin}
 use Rattle.prefsql_tables.specs.Table.{Tables}
 use Rattle.prefsql_tables.specs.declared.place.SortKey.{SortKey}
 use Rattle.query_tree.specs.declared.query.OrderTree.{OrderTree}
@@ -24,19 +23,19 @@ use Rattle.sql_tree.specs.declared.tree.SqlItem.{SqlItem}
 use Rattle.sql_tree.specs.declared.tree.SqlWhen.{SqlWhen}
 use Rattle.sql_tree.specs.declared.tree.SumTerm.{SumTerm}
 use Rattle.sql_text.specs.declared.named.NamedStatement.{NamedStatement}
-use Rattle.sql_text.specs.Text.{statement_pieces, text_of}
-use Rattle.sql_read_back.proofs.Writable.{fine_query}
 use Rattle.sql_read_back.proofs.Placed.{Each}
 use Rattle.sql_read_back.proofs.Round as round
-use Rattle.sql_read_back.proofs.QueriesWritten.{IsKey, AreShort}
+use Rattle.sql_read_back.proofs.StatementsWritten as written
+use Rattle.sql_read_back.proofs.StatementsWritten.{AreFine, IsFine}
+use Rattle.sql_read_back.specs.Texts.{texts_of}
+use Rattle.sql_read_back.proofs.QueriesWritten.{IsKey}
 use Rattle.sql_read_back.proofs.Judged.{judged_item, judged_from, judged_cond, judged_query}
 use Rattle.sql_read_back.proofs.JudgedEquations.{judged_parts, judged_query_is, own_items}
-use Rattle.sql_text.specs.Pieces.{tokens_from}
 use Rattle.std.proofs.lemmas.List.{length-map}
 use Rattle.sql_resolver.specs.Scope.{ScopeColumn}
 use Rattle.sql_resolver.specs.Owed.{fault_if, first_spot, either_spot}
 use Rattle.sql_resolver.specs.Reading.{query_reading}
-use Rattle.sql_resolver.specs.Statements.{KeyReading, key_of, key_reading, ok_unless, and_more, with_order, statement_reading}
+use Rattle.sql_resolver.specs.Statements.{KeyReading, key_of, key_reading, ok_unless, and_more, with_order, statement_reading, script_reading}
 use Rattle.sql_parser.specs.Faults.{max_nesting}
 use Rattle.sql_reader.specs.Reads.{ReadsAs}
 use Rattle.sql_read_back.proofs.Back as back
@@ -75,7 +74,7 @@ keys_back columns (k ∷ ks) (o ∷ os) each fit =
       faults = ap (λ (r : KeyReading). r.faults ++ flat_map (λ (key : KeyReading). key.faults) rest) one ∙ more.faults;
     }
 
--- ---- the text of a query
+-- ---- the texts of queries
 
 module _ (ok : SqlTable → Bool) (tables : Tables) where
   closed : back.Meant ok tables → round.Closed ok (back.QC ok tables) (back.QS ok tables) (back.QF ok tables) (back.QQ ok tables)
@@ -98,15 +97,15 @@ module _ (ok : SqlTable → Bool) (tables : Tables) where
     query_of = back.query_of_back ok tables;
   }
 
-  -- A well-formed query that can be written, over tables under the names that it has: its text reads as that query alone.
-  pub reads_back : back.Meant ok tables → (q : SqlQuery) → (judged_query q []).well ≡ true → (fine_query ok q).fine [] ≡ true → AreShort (out-SqlQuery q).order → IsUtf8 (text_of q) →
-      NestWithin max_nesting 0 (tokens_from 0 (statement_pieces q)) → ReadsAs tables (text_of q) (q ∷ [])
-  reads_back meant q well fine short utf8 nest =
-      let r = round.text_round ok (back.QC ok tables) (back.QS ok tables) (back.QF ok tables) (back.QQ ok tables) (closed meant) max_nesting q fine short utf8 nest in
-      let s : NamedStatement = r.statement in
+  abbrev StatementIs : SqlQuery → NamedStatement → Type 0
+  StatementIs = written.StatementIs ok (back.QC ok tables) (back.QS ok tables) (back.QF ok tables) (back.QQ ok tables)
+
+  -- a statement that is the query reads as it
+  statement_back : (q : SqlQuery) (s : NamedStatement) → IsFine ok max_nesting q → StatementIs q s → statement_reading tables s ≡ Ok q
+  statement_back q s fine is =
       let o = out-SqlQuery q in
-      let good : (judged_query q []).well ≡ true = well in
-      let b : back.QueryBack ok tables q s.query [] = r.is.query [] refl good fine in
+      let good : (judged_query q []).well ≡ true = fine.well in
+      let b : back.QueryBack ok tables q s.query [] = is.query [] refl good fine.fine in
       let columns = (query_reading tables s.query []).columns in
       let judged_is : judged_query q [] ≡ judged_parts o.items o.from o.filter o.order [] = ap (λ q. judged_query q []) (sym (roll-out-SqlQuery q)) ∙ judged_query_is o.distinct o.items o.from o.filter o.order [] in
       let judged = map (λ (item : View → JudgedItem). item (own_items o.from ∷ [])) (map judged_item o.items) in
@@ -114,13 +113,11 @@ module _ (ok : SqlTable → Bool) (tables : Tables) where
       ap (λ (cs : List ScopeColumn). length cs) b.columns
       ∙ (length-map (judged_query q []).columns back.scope_column ∙ (ap (λ (k : JudgedQuery). length k.columns) judged_is ∙ length-map judged (λ (item : JudgedItem). item.column))) in
       let fit : list_all (λ (key : SortKey). nat_lt key.column (length judged)) o.order ≡ true = keys_fit o.items o.from o.filter o.order (sym (ap (λ (k : JudgedQuery). k.well) judged_is) ∙ good) in
-      let keys : KeysBack columns o.order s.order = keys_back columns o.order s.order r.is.order (ap (λ n. list_all (λ (key : SortKey). nat_lt key.column n) o.order) many ∙ fit) in
+      let keys : KeysBack columns o.order s.order = keys_back columns o.order s.order is.order (ap (λ n. list_all (λ (key : SortKey). nat_lt key.column n) o.order) many ∙ fit) in
       let read = map (key_reading columns) s.order in
-      let one : statement_reading tables s ≡ Ok q =
       ap (λ f. ok_unless (either_spot f (first_spot (flat_map (λ (key : KeyReading). key.faults) read))) (with_order (map (λ (key : KeyReading). key.key) read) (query_reading tables s.query []).tree)) b.first
       ∙ (ap (λ fs. ok_unless (first_spot fs) (with_order (map (λ (key : KeyReading). key.key) read) (query_reading tables s.query []).tree)) keys.faults
-      ∙ ap Ok (ap (λ ks. with_order ks (query_reading tables s.query []).tree) keys.keys ∙ (ap (with_order o.order) b.tree ∙ ordered q))) in
-      (r.tokens, s ∷ [], r.are_tokens, r.is_script, ap (λ x. and_more x (Ok [])) one)
+      ∙ ap Ok (ap (λ ks. with_order ks (query_reading tables s.query []).tree) keys.keys ∙ (ap (with_order o.order) b.tree ∙ ordered q)))
     where
       keys_fit : (items : List SqlItem) (froms : List SqlFrom) (filter : Option SqlCond) (order : List SortKey) → (judged_parts items froms filter order []).well ≡ true →
           list_all (λ (key : SortKey). nat_lt key.column (length (map (λ (item : View → JudgedItem). item (own_items froms ∷ [])) (map judged_item items)))) order ≡ true
@@ -137,3 +134,16 @@ module _ (ok : SqlTable → Bool) (tables : Tables) where
           ap (λ (v : SqlQuery-F SqlCond SqlScalar SqlSource SqlFrom SqlItem SqlQuery SqlWhen SumTerm). roll-SqlQuery (record { distinct = v.distinct; items = v.items; from = v.from; filter = v.filter; order = o.order }))
           (out-roll-SqlQuery (record { distinct = o.distinct; items = o.items; from = o.from; filter = o.filter; order = [] }))
           ∙ roll-out-SqlQuery q
+
+  script_back : (queries : List SqlQuery) (statements : List NamedStatement) → AreFine ok max_nesting queries → Each StatementIs queries statements → script_reading tables statements ≡ Ok queries
+  script_back [] [] fine each = refl
+  script_back [] (s ∷ statements) fine each = absurd each
+  script_back (q ∷ queries) [] fine each = absurd each
+  script_back (q ∷ queries) (s ∷ statements) fine each =
+      ap (λ one. and_more one (script_reading tables statements)) (statement_back q s fine.0 each.0) ∙ ap (and_more (Ok q)) (script_back queries statements fine.1 each.1)
+
+  -- Well-formed queries that can be written, over tables under the names that they have: their texts, one after the other, read as these queries.
+  pub texts_read_back : back.Meant ok tables → (queries : List SqlQuery) → length queries ≤ 64 → AreFine ok max_nesting queries → IsUtf8 (texts_of queries) → ReadsAs tables (texts_of queries) queries
+  texts_read_back meant queries few fine utf8 =
+      let r = written.texts_round ok (back.QC ok tables) (back.QS ok tables) (back.QF ok tables) (back.QQ ok tables) (closed meant) max_nesting queries few fine utf8 in
+      (r.tokens, r.statements, r.are_tokens, r.is_script, script_back queries r.statements fine r.are)

@@ -2,7 +2,7 @@
 -- with names has to do with a part of a query is left open: it is any family of relations that each way to put parts together keeps.
 use Rattle.std.proofs.Common.{◌≡◌, ℕ, ℤ, ◌≤◌, Bool, true, false, not, ◌&&◌, List, [], ◌∷◌, map, length, refl, sym, ap, ◌∙◌, subst, arith, Option, Some, None}
 use Rattle.std.specs.Prelude.{nat_le, slice_index_or}
-use Rattle.std.specs.Str.{chars, IsUtf8}
+use Rattle.std.specs.Str.{chars}
 use Rattle.std.specs.List.{list_all}
 use Rattle.std.specs.Option.{option_map}
 use Rattle.std.proofs.lemmas.Bool.{and_parts, false≢true, not-true}
@@ -22,7 +22,7 @@ use Rattle.sql_tree.specs.declared.tree.SqlTable.{SqlTable}
 use Rattle.sql_tree.specs.declared.tree.SqlSource.{SqlSource, roll-SqlSource, map-SqlSource}
 use Rattle.sql_tree.specs.declared.tree.SqlFrom.{SqlFrom, roll-SqlFrom}
 use Rattle.sql_tree.specs.declared.tree.SqlItem.{SqlItem, roll-SqlItem}
-use Rattle.sql_tree.specs.declared.tree.SqlQuery.{SqlQuery, roll-SqlQuery, map-SqlQuery, out-SqlQuery}
+use Rattle.sql_tree.specs.declared.tree.SqlQuery.{SqlQuery, roll-SqlQuery, map-SqlQuery}
 use Rattle.sql_tree.specs.declared.tree.SqlWhen.{SqlWhen, roll-SqlWhen}
 use Rattle.sql_tree.specs.declared.tree.SumTerm.{SumTerm, roll-SumTerm}
 use Rattle.sql_text.specs.declared.named.NamedCond.{NamedCond}
@@ -39,15 +39,10 @@ use Rattle.sql_text.specs.declared.named.NamedTerm.{NamedTerm}
 use Rattle.sql_text.specs.declared.named.NamedWhen.{NamedWhen}
 use Rattle.prefsql_values.specs.Nesting.{Standing, alone, in_and, in_or, after_not, wraps_and, wraps_or, wraps_not}
 use Rattle.grammar_forms.specs.Form.{option}
-use Rattle.sql_text.specs.Grammar.{Grammar, cond, conj, neg, test, sum, factor, when, item, filter, from, query, query_tree, script}
-use Rattle.sql_read_back.proofs.Apart.{Follows, follows_none, follows_space, closes_line}
-use Rattle.prefsql_lexer.specs.declared.token.Token.{Token}
-use Rattle.prefsql_lexer.specs.Tokens.{IsTokens}
-use Rattle.prefsql_lexer.specs.Bounds.{NestWithin}
-use Rattle.sql_text.specs.declared.named.NamedStatement.{NamedStatement}
-use Rattle.sql_text.specs.Scripts.{IsWhole, IsScript}
-use Rattle.sql_text.specs.Pieces.{Piece, tokens_from}
-use Rattle.sql_text.specs.Text.{Names, ItemNames, item_at, cond_pieces, scalar_pieces, source_pieces, from_pieces, item_pieces, query_pieces, when_pieces, term_pieces, in_parentheses, in_parentheses_if, all_joined, any_joined, negated_pieces, sum_pieces, else_pieces, filter_pieces, listed, word_of, name_mark, ◌⎵◌, WrittenItem, statement_pieces, text_of}
+use Rattle.sql_text.specs.Grammar.{Grammar, cond, conj, neg, test, sum, factor, when, item, filter, from, query, query_tree}
+use Rattle.sql_read_back.proofs.Apart.{Follows, follows_none, follows_space}
+use Rattle.sql_text.specs.Pieces.{Piece}
+use Rattle.sql_text.specs.Text.{Names, ItemNames, item_at, cond_pieces, scalar_pieces, source_pieces, from_pieces, item_pieces, query_pieces, when_pieces, term_pieces, in_parentheses, in_parentheses_if, all_joined, any_joined, negated_pieces, sum_pieces, else_pieces, filter_pieces, listed, word_of, name_mark, ◌⎵◌, WrittenItem}
 use Rattle.sql_read_back.proofs.Found.{is_found, written_name}
 use Rattle.sql_read_back.proofs.Writable.{FineScalar, FineTerm, FineItem, FineFrom, is_term, last_fine, filter_fine, fine_cond, fine_scalar, fine_source, fine_from, fine_item, fine_query, fine_when, fine_term}
 use Rattle.sql_text.proofs.Equations.{pieces-And, pieces-Or, pieces-Not, pieces-Compare, pieces-Between, pieces-OneOf, pieces-IsNull, pieces-Exists, pieces-Column, pieces-Number, pieces-Chars, pieces-Sum, pieces-Case, term_is, when_is, item_name_is, item_is, from_names_is, from_is, source-Table, source-Derived, inner_names, query_is, columns-Table, columns-Derived, columns-query}
@@ -56,8 +51,7 @@ use Rattle.sql_read_back.proofs.Placed.{Each}
 use Rattle.sql_read_back.proofs.WrittenForms.{Written, AllWritten}
 use Rattle.sql_read_back.proofs.ScalarsWritten.{IsTerm, column_written, chars_written, number_written, factor_in_sum, sum_written, when_written, case_written, no_else, some_else}
 use Rattle.sql_read_back.proofs.CondsWritten.{test_in_neg, neg_in_conj, conj_in_cond, parens_in_test, and_written, or_written, not_written, compare_written, between_written, member_written, null_written, exists_written}
-use Rattle.sql_read_back.proofs.QueriesWritten.{item_written, list_written, table_written, derived_written, query_written, no_filter, some_filter, IsKey, AreShort, IsOne, script_written}
-use Rattle.sql_read_back.proofs.WrittenTokens.{written_tokens}
+use Rattle.sql_read_back.proofs.QueriesWritten.{item_written, list_written, table_written, derived_written, query_written, no_filter, some_filter}
 use Rattle.token_forms.specs.Forms.{◌⨟>◌, word_only}
 
 name_is : (name : List ℕ) → is_name name ≡ true → IsName name
@@ -542,37 +536,3 @@ module _ (ok : SqlTable → Bool) (QC : Names → SqlCond → NamedCond → Type
         (λ x y is. subst (λ z. PQ (roll-SqlQuery z)) is (query_any y))
         (λ x y is. subst (λ z. PW (roll-SqlWhen z)) is (record { cond = y.cond.1; value = y.value.1 }))
         (λ x y is. subst (λ z. PT (roll-SumTerm z)) is y.scalar.1)
-
-    -- ---- statements
-
-    -- a statement of the script is the query with its order
-    pub record StatementIs (q : SqlQuery) (s : NamedStatement) : Type 0 where
-      pub query : QQ [] q s.query
-      pub order : Each IsKey (out-SqlQuery q).order s.order
-
-    pub statement_round : (q : SqlQuery) → ((fine_query ok) q).fine [] ≡ true → AreShort (out-SqlQuery q).order → Written script (statement_pieces q) (IsOne (StatementIs q))
-    statement_round q fine short =
-        script_written ((query_pieces q).pieces []) (out-SqlQuery q).order (QQ [] q) (StatementIs q) (λ n os p each. record { query = p; order = each }) short ((query_round q).written [] fine)
-
-    -- The text of a query that can be written has the tokens that were written, and these are a script of one statement, which is the query.
-    pub record ReadsAsOne (limit : ℕ) (q : SqlQuery) : Type 0 where
-      pub tokens : List Token
-      pub statement : NamedStatement
-      pub are_tokens : IsTokens limit (text_of q) tokens
-      pub is_script : IsScript tokens (statement ∷ [])
-      pub is : StatementIs q statement
-
-    pub text_round : (limit : ℕ) (q : SqlQuery) → ((fine_query ok) q).fine [] ≡ true → AreShort (out-SqlQuery q).order → IsUtf8 (text_of q) → NestWithin limit 0 (tokens_from 0 (statement_pieces q)) → ReadsAsOne limit q
-    text_round limit q fine short utf8 nest =
-        let w = statement_round q fine short in
-        let at = w.placed 0 in
-        let ts = tokens_from 0 (statement_pieces q) in
-        let one = at.3 in
-        let P : List NamedStatement → Type 0 = λ ss. IsWhole at.0 script ts ss in
-        record {
-          tokens = ts;
-          statement = one.one;
-          are_tokens = written_tokens limit (statement_pieces q) utf8 (w.apart (10 ∷ []) closes_line) nest;
-          is_script = (omega arith, (at.0, subst P one.is at.2));
-          is = one.holds;
-        }

@@ -1,10 +1,13 @@
--- The text of a valid query over tables that it fits reads as that query alone.
-use Rattle.std.proofs.Common.{◌≡◌, ℕ, ◌≤◌, ◌<◌, true, ◌&&◌, List, [], ◌∷◌, map, length, sym, ap, ◌∙◌, arith}
-use Rattle.std.specs.Prelude.{IsUtf8, nat_lt, nat_le}
+-- The texts of valid queries, over tables that they fit, read as these queries.
+use Rattle.std.proofs.Common.{◌≡◌, ℕ, ◌≤◌, ◌<◌, true, ◌&&◌, List, [], ◌∷◌, map, length, subst, sym, ap, ◌∙◌, arith}
+use Rattle.std.proofs.lemmas.Str.{IsUtf8-append, IsUtf8-nil}
+use Rattle.std.proofs.lemmas.List.Elements.{All-cons, All-head, All-nil, All-tail}
+use Rattle.sql_parser.specs.Faults.{max_nesting}
+use Rattle.std.specs.Prelude.{All, IsUtf8, nat_lt, nat_le}
 use Rattle.std.specs.List.{list_all}
 use Rattle.std.specs.Option.{option_map}
 use Rattle.std.proofs.lemmas.Bool.{and_parts, ltb-true}
-use Rattle.std.proofs.lemmas.List.{length-map}
+use Rattle.std.proofs.lemmas.List.{append-nil, length-append, length-map}
 use Rattle.std.proofs.lemmas.Int.{ints}
 use Rattle.prefsql_tables.specs.Table.{Tables}
 use Rattle.prefsql_tables.specs.Valid.{IsTableSet}
@@ -15,20 +18,18 @@ use Rattle.sql_tree.specs.WellFormed.{IsValid, JudgedItem, JudgedQuery, JudgedFr
 use Rattle.sql_tree.specs.declared.tree.SqlQuery.{SqlQuery, out-SqlQuery, roll-out-SqlQuery}
 use Rattle.sql_text.specs.Text.{text_of}
 use Rattle.sql_reader.specs.Reads.{ReadsAs}
+use Rattle.sql_read_back.specs.Texts.{AreWritable, max_bytes, texts_of}
 use Rattle.sql_read_back.proofs.Judged.{judged_query, judged_item, judged_from, judged_cond}
 use Rattle.sql_read_back.proofs.JudgedEquations.{judged_query_is, judged_parts, own_items}
 use Rattle.sql_read_back.proofs.QueriesWritten.{AreShort}
 use Rattle.sql_read_back.proofs.ShortOrder.{items_within}
-use Rattle.sql_read_back.proofs.Nested.{statement_nests}
+use Rattle.sql_read_back.proofs.Nested.{statement_nests, statement_closes}
 use Rattle.sql_read_back.proofs.ToldQueries.{query_told}
 use Rattle.sql_read_back.proofs.TablesFound.{stands, all_stand, meant}
-use Rattle.sql_read_back.proofs.ReadingBack.{reads_back}
+use Rattle.sql_read_back.proofs.ReadingBack.{texts_read_back}
+use Rattle.sql_read_back.proofs.StatementsWritten.{AreFine, IsFine}
 
--- how many bytes a text may have that is read
-abbrev pub max_text : ℕ
-max_text = 268435456
-
-short_keys : (n : ℕ) → n ≤ max_text → (keys : List SortKey) → list_all (λ (key : SortKey). nat_lt key.column n) keys ≡ true → AreShort keys
+short_keys : (n : ℕ) → n ≤ max_bytes → (keys : List SortKey) → list_all (λ (key : SortKey). nat_lt key.column n) keys ≡ true → AreShort keys
 short_keys n le [] e = tt
 short_keys n le (key ∷ keys) e =
     let p = and_parts (nat_lt key.column n) (list_all (λ (key : SortKey). nat_lt key.column n) keys) e in
@@ -48,12 +49,52 @@ keys_in_range q well =
     && filter_well (option_map judged_cond o.filter) view) (list_all (λ (key : SortKey). nat_lt key.column (length judged)) o.order) e in
     ap (λ n. list_all (λ (key : SortKey). nat_lt key.column n) o.order) long ∙ all.1
 
-pub valid_reads_back : (tables : Tables) → IsTableSet tables → (q : SqlQuery) → IsValid q → FitsTables tables q → IsUtf8 (text_of q) → length (text_of q) ≤ max_text → ReadsAs tables (text_of q) (q ∷ [])
+module _ (tables : Tables) where
+  valid_fine : (q : SqlQuery) → IsValid q → FitsTables tables q → length (text_of q) ≤ max_bytes → IsFine (stands tables) max_nesting q
+  valid_fine q valid fits few =
+      let told : (judged_query q []).well ≡ true = valid.told in
+      let ok = stands tables in
+      let within = items_within q in
+      let items : length (out-SqlQuery q).items ≤ max_bytes = omega (arith, within, few) in
+      record {
+        well = told;
+        fine = (query_told ok q).fine [] tt told (all_stand tables (tables_of q) fits);
+        short = short_keys (length (out-SqlQuery q).items) items (out-SqlQuery q).order (keys_in_range q told);
+        nest = statement_nests max_nesting q valid.nested;
+        close = statement_closes max_nesting q valid.nested;
+      }
+
+  all_fine : (queries : List SqlQuery) → All IsValid queries → All (FitsTables tables) queries → length (texts_of queries) ≤ max_bytes → AreFine (stands tables) max_nesting queries
+  all_fine [] valid fits few = tt
+  all_fine (q ∷ queries) valid fits few =
+      let long = length-append (text_of q) (texts_of queries) in (
+        valid_fine q (All-head IsValid q queries valid) (All-head (FitsTables tables) q queries fits) (omega (arith, long, few)),
+        all_fine queries (All-tail IsValid q queries valid) (All-tail (FitsTables tables) q queries fits) (omega (arith, long, few)),
+      )
+
+all_utf8 : (queries : List SqlQuery) → All (λ q. IsUtf8 (text_of q)) queries → IsUtf8 (texts_of queries)
+all_utf8 [] utf8 = IsUtf8-nil
+all_utf8 (q ∷ queries) utf8 =
+    let P : SqlQuery → Type 0 = λ q. IsUtf8 (text_of q) in
+    IsUtf8-append (text_of q) (texts_of queries) (All-head P q queries utf8) (all_utf8 queries (All-tail P q queries utf8))
+
+pub written_reads_back : (tables : Tables) → IsTableSet tables → (queries : List SqlQuery) → AreWritable tables queries → ReadsAs tables (texts_of queries) queries
+written_reads_back tables set queries is =
+    texts_read_back (stands tables) tables (meant tables set) queries is.few (all_fine tables queries is.valid is.fits is.within) (all_utf8 queries is.utf8)
+
+-- the one text of one query
+one_writable : (tables : Tables) (q : SqlQuery) → IsValid q → FitsTables tables q → IsUtf8 (text_of q) → length (text_of q) ≤ max_bytes → AreWritable tables (q ∷ [])
+one_writable tables q valid fits utf8 few =
+    let P : SqlQuery → Type 0 = λ q. IsUtf8 (text_of q) in
+    let same = ap length (append-nil (text_of q)) in
+    record {
+      few = omega arith;
+      valid = All-cons IsValid q [] valid (All-nil IsValid);
+      fits = All-cons (FitsTables tables) q [] fits (All-nil (FitsTables tables));
+      utf8 = All-cons P q [] utf8 (All-nil P);
+      within = omega (arith, same, few);
+    }
+
+pub valid_reads_back : (tables : Tables) → IsTableSet tables → (q : SqlQuery) → IsValid q → FitsTables tables q → IsUtf8 (text_of q) → length (text_of q) ≤ max_bytes → ReadsAs tables (text_of q) (q ∷ [])
 valid_reads_back tables set q valid fits utf8 few =
-    let told : (judged_query q []).well ≡ true = valid.told in
-    let ok = stands tables in
-    let fine = (query_told ok q).fine [] tt told (all_stand tables (tables_of q) fits) in
-    let within = items_within q in
-    let items : length (out-SqlQuery q).items ≤ max_text = omega (arith, within, few) in
-    let short = short_keys (length (out-SqlQuery q).items) items (out-SqlQuery q).order (keys_in_range q told) in
-    reads_back ok tables (meant tables set) q told fine short utf8 (statement_nests 256 q valid.nested)
+    subst (λ text. ReadsAs tables text (q ∷ [])) (append-nil (text_of q)) (written_reads_back tables set (q ∷ []) (one_writable tables q valid fits utf8 few))

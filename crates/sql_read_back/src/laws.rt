@@ -1,11 +1,14 @@
-//! What the text of a query says to whoever reads it.
+//! What the texts of queries say to whoever reads them.
 
 ghost use Rattle.std.specs.Prelude.{◌≡◌, ◌≤◌, ◌∷◌, [], length, List, IsUtf8};
+ghost use Rattle.prefsql_tables.specs.Table.{Tables};
+ghost use Rattle.prefsql_tables.specs.Valid.{IsTableSet};
 ghost use Rattle.sql_tree.specs.Fits.{FitsTables};
 ghost use Rattle.sql_tree.specs.WellFormed.{IsValid};
 ghost use Rattle.sql_tree.specs.declared.tree.SqlQuery as tree;
 ghost use Rattle.sql_text.specs.Text.{text_of};
 ghost use Rattle.sql_reader.specs.Reads.{ReadsAs};
+ghost use Rattle.sql_read_back.specs.Texts.{AreWritable, texts_of};
 
 use prefsql_tables::TableSet;
 use sql_tree::SqlQuery;
@@ -24,3 +27,13 @@ pub fn reads_back(query: &SqlQuery, tables: &TableSet)
     let _ = query;
     tables.keeps_limits();
 }
+
+/// The texts of valid queries, one after the other, read, over tables that the queries fit, as these
+/// queries in order and as nothing else. They are at most 64, and their texts have at most
+/// 268,435,456 bytes, as every script that is read; of no query the text is empty and reads as none.
+pub fn texts_read_back()
+    ensures reads { (tables : Tables) (queries : List tree.SqlQuery) → IsTableSet tables
+        → AreWritable tables queries → ReadsAs tables (texts_of queries) queries }
+    ensures alone { (tables : Tables) (queries others : List tree.SqlQuery) → IsTableSet tables
+        → AreWritable tables queries → ReadsAs tables (texts_of queries) others → others ≡ queries }
+{}
