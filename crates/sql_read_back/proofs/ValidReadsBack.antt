@@ -72,26 +72,26 @@ module _ (tables : Tables) where
         all_fine queries (All-tail IsValid q queries valid) (All-tail (FitsTables tables) q queries fits) (omega (arith, long, few)),
       )
 
-all_utf8 : (queries : List SqlQuery) → All (λ q. IsUtf8 (text_of q)) queries → IsUtf8 (texts_of queries)
-all_utf8 [] utf8 = IsUtf8-nil
-all_utf8 (q ∷ queries) utf8 =
+-- texts that are UTF-8 each are so one after the other
+pub texts_utf8 : (queries : List SqlQuery) → All (λ q. IsUtf8 (text_of q)) queries → IsUtf8 (texts_of queries)
+texts_utf8 [] utf8 = IsUtf8-nil
+texts_utf8 (q ∷ queries) utf8 =
     let P : SqlQuery → Type 0 = λ q. IsUtf8 (text_of q) in
-    IsUtf8-append (text_of q) (texts_of queries) (All-head P q queries utf8) (all_utf8 queries (All-tail P q queries utf8))
+    IsUtf8-append (text_of q) (texts_of queries) (All-head P q queries utf8) (texts_utf8 queries (All-tail P q queries utf8))
 
 pub written_reads_back : (tables : Tables) → IsTableSet tables → (queries : List SqlQuery) → AreWritable tables queries → ReadsAs tables (texts_of queries) queries
 written_reads_back tables set queries is =
-    texts_read_back (stands tables) tables (meant tables set) queries is.few (all_fine tables queries is.valid is.fits is.within) (all_utf8 queries is.utf8)
+    texts_read_back (stands tables) tables (meant tables set) queries is.few (all_fine tables queries is.valid is.fits is.within) is.utf8
 
 -- the one text of one query
 one_writable : (tables : Tables) (q : SqlQuery) → IsValid q → FitsTables tables q → IsUtf8 (text_of q) → length (text_of q) ≤ max_bytes → AreWritable tables (q ∷ [])
 one_writable tables q valid fits utf8 few =
-    let P : SqlQuery → Type 0 = λ q. IsUtf8 (text_of q) in
     let same = ap length (append-nil (text_of q)) in
     record {
       few = omega arith;
       valid = All-cons IsValid q [] valid (All-nil IsValid);
       fits = All-cons (FitsTables tables) q [] fits (All-nil (FitsTables tables));
-      utf8 = All-cons P q [] utf8 (All-nil P);
+      utf8 = subst IsUtf8 (sym (append-nil (text_of q))) utf8;
       within = omega (arith, same, few);
     }
 
