@@ -1,0 +1,2 @@
+mod AlikeTables
+mod WrittenAnswers
