@@ -1,5 +1,5 @@
 -- The tokens of a written query nest no deeper than the query says.
-use Rattle.std.proofs.Common.{◌≡◌, ◌≤◌, ℕ, ℤ, ◌+◌, ◌-◌, pos, negsuc, Bool, true, false, Option, Some, None, List, [], ◌∷◌, ◌++◌, map, length, refl, sym, ap, subst, arith, append_assoc, append-nil, suc}
+use Rattle.std.proofs.Common.{◌≡◌, ◌≤◌, ℕ, ℤ, ◌+◌, ◌-◌, pos, negsuc, Bool, true, false, Option, Some, None, List, [], ◌∷◌, ◌++◌, map, length, refl, sym, ap, subst, arith, append_assoc, suc}
 use Rattle.std.specs.Prelude.{max}
 use Rattle.std.specs.List.{flat_map}
 use Rattle.std.specs.Option.{option_map}
@@ -12,7 +12,7 @@ use Rattle.prefsql_lexer.specs.declared.token.Symbol.TheVariants as symbol
 use Rattle.prefsql_values.specs.Nesting as nest
 use Rattle.prefsql_values.specs.Nesting.{deepest}
 use Rattle.sql_text.specs.Pieces.{Piece, space, mark, token_bytes, tokens_from}
-use Rattle.sql_text.specs.Text.{Names, ItemNames, item_at, joined, listed, in_parentheses, in_parentheses_if, word_of, name_mark, ◌⎵◌, all_joined, any_joined, negated_pieces, not_if, compare_pieces, op_symbol, between_pieces, null_pieces, column_pieces, number_pieces, SignedPieces, later_pieces, else_pieces, whens_joined, distinct_if, filter_pieces, direction_word, key_pieces, order_pieces, statement_pieces, cond_pieces, scalar_pieces, source_pieces, from_pieces, item_pieces, query_pieces, when_pieces, term_pieces}
+use Rattle.sql_text.specs.Text.{Names, ItemNames, item_at, joined, listed, in_parentheses, in_parentheses_if, word_of, name_mark, ◌⎵◌, all_joined, any_joined, negated_pieces, not_if, compare_pieces, op_symbol, between_pieces, null_pieces, column_pieces, number_pieces, SignedPieces, later_pieces, else_pieces, whens_joined, distinct_if, filter_pieces, cond_pieces, scalar_pieces, source_pieces, from_pieces, item_pieces, query_pieces, when_pieces, term_pieces}
 use Rattle.sql_text.proofs.Equations.{pieces-And, pieces-Or, pieces-Not, pieces-Compare, pieces-Between, pieces-OneOf, pieces-IsNull, pieces-Exists, pieces-Column, pieces-Number, pieces-Chars, pieces-Sum, pieces-Case, term_is, when_is, item_is, from_is, source-Table, source-Derived, inner_names, query_is}
 use Rattle.prefsql_lexer.specs.declared.token.Keyword.{Keyword}
 use Rattle.prefsql_values.specs.Nesting.{Standing, alone, in_and, in_or, after_not, wraps_and, wraps_or, wraps_not}
@@ -28,7 +28,7 @@ use Rattle.sql_tree.specs.declared.tree.SqlPlace.{SqlPlace}
 use Rattle.sql_tree.specs.declared.tree.SqlSource.{SqlSource, roll-SqlSource, map-SqlSource}
 use Rattle.sql_tree.specs.declared.tree.SqlFrom.{SqlFrom, roll-SqlFrom}
 use Rattle.sql_tree.specs.declared.tree.SqlItem.{SqlItem, roll-SqlItem}
-use Rattle.sql_tree.specs.declared.tree.SqlQuery.{SqlQuery, roll-SqlQuery, map-SqlQuery, out-SqlQuery}
+use Rattle.sql_tree.specs.declared.tree.SqlQuery.{SqlQuery, roll-SqlQuery, map-SqlQuery}
 use Rattle.sql_tree.specs.declared.tree.SqlWhen.{SqlWhen, roll-SqlWhen}
 use Rattle.sql_tree.specs.declared.tree.SumTerm.{SumTerm, roll-SumTerm}
 use Rattle.sql_read_back.proofs.WrittenTokens.{depth_behind}
@@ -144,10 +144,10 @@ module _ (limit : ℕ) where
 
   -- ---- words of the text
 
-  word_then : (k : ℕ) (w : Keyword) (ps : List Piece) → ((d : ℕ) → depth_after d (Word w) ≡ d) → Nests k ps → Nests k (word_of w ⎵ ps)
+  pub word_then : (k : ℕ) (w : Keyword) (ps : List Piece) → ((d : ℕ) → depth_after d (Word w) ≡ d) → Nests k ps → Nests k (word_of w ⎵ ps)
   word_then k w ps same n = nests_mark k (Word w) (space ∷ ps) same (nests_space k ps n)
 
-  word_end : (k : ℕ) (w : Keyword) → ((d : ℕ) → depth_after d (Word w) ≡ d) → Nests k (word_of w)
+  pub word_end : (k : ℕ) (w : Keyword) → ((d : ℕ) → depth_after d (Word w) ≡ d) → Nests k (word_of w)
   word_end k w same = nests_mark k (Word w) [] same (nests_none k)
 
   name_end : (k : ℕ) (name : List ℕ) → Nests k (name_mark name ∷ [])
@@ -159,7 +159,7 @@ module _ (limit : ℕ) where
   between_or : (k : ℕ) → Nests k (space ∷ mark (Word word.Or) ∷ space ∷ [])
   between_or k = nests_mark k (Word word.Or) (space ∷ []) (λ d. refl) (nests_none k)
 
-  comma : (k : ℕ) → Nests k (mark (SymbolKind symbol.Comma) ∷ space ∷ [])
+  pub comma : (k : ℕ) → Nests k (mark (SymbolKind symbol.Comma) ∷ space ∷ [])
   comma k = nests_mark k (SymbolKind symbol.Comma) (space ∷ []) (λ d. refl) (nests_none k)
 
   one_space : (k : ℕ) → Nests k (space ∷ [])
@@ -467,7 +467,7 @@ module _ (limit : ℕ) where
       by_filter None = query_case y.distinct y.order None y.items y.from
       by_filter (Some c) = query_case y.distinct y.order (Some c) y.items y.from
 
-  query_nests : (q : SqlQuery) → PQ q
+  pub query_nests : (q : SqlQuery) → PQ q
   query_nests = ind-SqlQuery PC PS PO PF PI PQ PW PT
       (λ x y is. subst (λ z. PC (roll-SqlCond z)) is (cond_any y))
       (λ x y is. subst (λ z. PS (roll-SqlScalar z)) is (scalar_any y))
@@ -477,45 +477,3 @@ module _ (limit : ℕ) where
       (λ x y is. subst (λ z. PQ (roll-SqlQuery z)) is (query_any y))
       (λ x y is. subst (λ z. PW (roll-SqlWhen z)) is (record { cond = y.cond.1; value = y.value.1 }))
       (λ x y is. subst (λ z. PT (roll-SumTerm z)) is y.scalar.1)
-
-  -- ---- statements
-
-  key_nests : (k : ℕ) (key : SortKey) → Nests k (key_pieces key)
-  key_nests k key = nests_mark k (Number (pos (key.column + 1))) (space ∷ word_of (direction_word key.descending)) (λ d. refl) (direction key.descending)
-    where
-      direction : (b : Bool) → Nests k (space ∷ word_of (direction_word b))
-      direction true = word_end k word.Desc (λ d. refl)
-      direction false = word_end k word.Asc (λ d. refl)
-
-  keys_nest : (keys : List SortKey) → EachNests (λ (key : SortKey). 0) key_pieces keys
-  keys_nest [] = tt
-  keys_nest (key ∷ keys) = (key_nests 0 key, keys_nest keys)
-
-  no_depth : (keys : List SortKey) → deepest (map (λ (key : SortKey). 0) keys) ≡ 0
-  no_depth [] = refl
-  no_depth (key ∷ keys) = ap (max 0) (no_depth keys)
-
-  order_nests : (k : ℕ) (keys : List SortKey) → Nests k (order_pieces keys)
-  order_nests k [] = nests_none k
-  order_nests k (key ∷ more) =
-      let list = listed (map key_pieces (key ∷ more)) in
-      let body = nests_joined (mark (SymbolKind symbol.Comma) ∷ space ∷ []) comma (λ (key : SortKey). 0) key_pieces (key ∷ more) (keys_nest (key ∷ more)) in
-      let flat : Nests k list = nests_weaker 0 k list (omega arith) (subst (λ z. Nests z list) (no_depth (key ∷ more)) body) in
-      word_then k word.Order (word_of word.By ⎵ list) (λ d. refl) (word_then k word.By list (λ d. refl) flat)
-
-  statement_walks : (q : SqlQuery) → nesting q ≤ limit → PiecesNest limit 0 (statement_pieces q)
-  statement_walks q le =
-      let k = nesting q in
-      let ps = (query_pieces q).pieces [] in
-      let os = order_pieces (out-SqlQuery q).order in
-      let end : List Piece = mark (SymbolKind symbol.Semicolon) ∷ [] in
-      let front = nests_append k ps os (query_nests q []) (order_nests k (out-SqlQuery q).order) in
-      let all = nests_append k (ps ++ os) end front (nests_mark k (SymbolKind symbol.Semicolon) [] (λ d. refl) (nests_none k)) in
-      subst (λ z. PiecesNest limit 0 z) (append-nil (statement_pieces q)) (all 0 (omega (arith, le)) [] refl)
-
-  pub statement_nests : (q : SqlQuery) → nesting q ≤ limit → (at : ℕ) → NestWithin limit 0 (tokens_from at (statement_pieces q))
-  statement_nests q le at = tokens_nest limit 0 at (statement_pieces q) (statement_walks q le)
-
-  -- what is opened in a statement is closed in it
-  pub statement_closes : (q : SqlQuery) → nesting q ≤ limit → depth_behind 0 (statement_pieces q) ≡ 0
-  statement_closes q le = pieces_close limit 0 (statement_pieces q) (statement_walks q le)

@@ -39,6 +39,8 @@ use Rattle.sql_resolver.specs.Statements.{KeyReading, key_of, key_reading, ok_un
 use Rattle.sql_parser.specs.Faults.{max_nesting}
 use Rattle.sql_reader.specs.Reads.{ReadsAs}
 use Rattle.sql_read_back.proofs.Back as back
+use Rattle.sql_read_back.proofs.ScalarsBack as scalars_back
+use Rattle.sql_read_back.proofs.QueriesBack as queries_back
 
 -- ---- keys
 
@@ -77,7 +79,7 @@ keys_back columns (k ∷ ks) (o ∷ os) each fit =
 -- ---- the texts of queries
 
 module _ (ok : SqlTable → Bool) (tables : Tables) where
-  closed : back.Meant ok tables → round.Closed ok (back.QC ok tables) (back.QS ok tables) (back.QF ok tables) (back.QQ ok tables)
+  closed : queries_back.Meant ok tables → round.Closed ok (back.QC ok tables) (back.QS ok tables) (back.QF ok tables) (back.QQ ok tables)
   closed meant = record {
     conjunction = back.conjunction_back ok tables;
     disjunction = back.disjunction_back ok tables;
@@ -86,15 +88,15 @@ module _ (ok : SqlTable → Bool) (tables : Tables) where
     range = back.range_back ok tables;
     member = back.member_back ok tables;
     null = back.null_back ok tables;
-    existence = back.existence_back ok tables;
-    column = back.column_back ok tables;
-    number = back.number_back ok tables;
-    text = back.text_back ok tables;
-    sum_of = back.sum_back ok tables;
-    choice = back.choice_back ok tables;
-    table = back.table_back ok tables meant;
-    derived = back.derived_back ok tables;
-    query_of = back.query_of_back ok tables;
+    existence = queries_back.existence_back ok tables;
+    column = scalars_back.column_back ok tables;
+    number = scalars_back.number_back ok tables;
+    text = scalars_back.text_back ok tables;
+    sum_of = scalars_back.sum_back ok tables;
+    choice = scalars_back.choice_back ok tables;
+    table = queries_back.table_back ok tables meant;
+    derived = queries_back.derived_back ok tables;
+    query_of = queries_back.query_of_back ok tables;
   }
 
   abbrev StatementIs : SqlQuery → NamedStatement → Type 0
@@ -143,7 +145,7 @@ module _ (ok : SqlTable → Bool) (tables : Tables) where
       ap (λ one. and_more one (script_reading tables statements)) (statement_back q s fine.0 each.0) ∙ ap (and_more (Ok q)) (script_back queries statements fine.1 each.1)
 
   -- Well-formed queries that can be written, over tables under the names that they have: their texts, one after the other, read as these queries.
-  pub texts_read_back : back.Meant ok tables → (queries : List SqlQuery) → length queries ≤ 64 → AreFine ok max_nesting queries → IsUtf8 (texts_of queries) → ReadsAs tables (texts_of queries) queries
+  pub texts_read_back : queries_back.Meant ok tables → (queries : List SqlQuery) → length queries ≤ 64 → AreFine ok max_nesting queries → IsUtf8 (texts_of queries) → ReadsAs tables (texts_of queries) queries
   texts_read_back meant queries few fine utf8 =
       let r = written.texts_round ok (back.QC ok tables) (back.QS ok tables) (back.QF ok tables) (back.QQ ok tables) (closed meant) max_nesting queries few fine utf8 in
       (r.tokens, r.statements, r.are_tokens, r.is_script, script_back queries r.statements fine r.are)

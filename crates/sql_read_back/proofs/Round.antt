@@ -37,12 +37,12 @@ use Rattle.sql_text.specs.declared.named.NamedItem.{NamedItem}
 use Rattle.sql_text.specs.declared.named.NamedQuery.{NamedQuery}
 use Rattle.sql_text.specs.declared.named.NamedTerm.{NamedTerm}
 use Rattle.sql_text.specs.declared.named.NamedWhen.{NamedWhen}
-use Rattle.prefsql_values.specs.Nesting.{Standing, alone, in_and, in_or, after_not, wraps_and, wraps_or, wraps_not}
+use Rattle.prefsql_values.specs.Nesting.{Standing, alone, in_and, in_or, after_not}
 use Rattle.grammar_forms.specs.Form.{option}
-use Rattle.sql_text.specs.Grammar.{Grammar, cond, conj, neg, test, sum, factor, when, item, filter, from, query, query_tree}
+use Rattle.sql_text.specs.Grammar.{Grammar, conj, neg, test, sum, factor, when, item, filter, from, query, query_tree}
 use Rattle.sql_read_back.proofs.Apart.{Follows, follows_none, follows_space}
 use Rattle.sql_text.specs.Pieces.{Piece}
-use Rattle.sql_text.specs.Text.{Names, ItemNames, item_at, cond_pieces, scalar_pieces, source_pieces, from_pieces, item_pieces, query_pieces, when_pieces, term_pieces, in_parentheses, in_parentheses_if, all_joined, any_joined, negated_pieces, sum_pieces, else_pieces, filter_pieces, listed, word_of, name_mark, ◌⎵◌, WrittenItem}
+use Rattle.sql_text.specs.Text.{Names, ItemNames, item_at, cond_pieces, scalar_pieces, source_pieces, from_pieces, item_pieces, query_pieces, when_pieces, term_pieces, all_joined, any_joined, negated_pieces, sum_pieces, else_pieces, filter_pieces, listed, word_of, name_mark, ◌⎵◌, WrittenItem}
 use Rattle.sql_read_back.proofs.Found.{is_found, written_name}
 use Rattle.sql_read_back.proofs.Writable.{FineScalar, FineTerm, FineItem, FineFrom, is_term, last_fine, filter_fine, fine_cond, fine_scalar, fine_source, fine_from, fine_item, fine_query, fine_when, fine_term}
 use Rattle.sql_text.proofs.Equations.{pieces-And, pieces-Or, pieces-Not, pieces-Compare, pieces-Between, pieces-OneOf, pieces-IsNull, pieces-Exists, pieces-Column, pieces-Number, pieces-Chars, pieces-Sum, pieces-Case, term_is, when_is, item_name_is, item_is, from_names_is, from_is, source-Table, source-Derived, inner_names, query_is, columns-Table, columns-Derived, columns-query}
@@ -50,9 +50,10 @@ use Rattle.sql_read_back.proofs.FineEquations.{fine-And, fine-Or, fine-Not, fine
 use Rattle.sql_read_back.proofs.Placed.{Each}
 use Rattle.sql_read_back.proofs.WrittenForms.{Written, AllWritten}
 use Rattle.sql_read_back.proofs.ScalarsWritten.{IsTerm, column_written, chars_written, number_written, factor_in_sum, sum_written, when_written, case_written, no_else, some_else}
-use Rattle.sql_read_back.proofs.CondsWritten.{test_in_neg, neg_in_conj, conj_in_cond, parens_in_test, and_written, or_written, not_written, compare_written, between_written, member_written, null_written, exists_written}
+use Rattle.sql_read_back.proofs.CondsWritten.{and_written, or_written, not_written, compare_written, between_written, member_written, null_written, exists_written}
 use Rattle.sql_read_back.proofs.QueriesWritten.{item_written, list_written, table_written, derived_written, query_written, no_filter, some_filter}
 use Rattle.token_forms.specs.Forms.{◌⨟>◌, word_only}
+use Rattle.sql_read_back.proofs.Standings.{form_at, place_and, place_not, place_or, place_test}
 
 name_is : (name : List ℕ) → is_name name ≡ true → IsName name
 name_is name e =
@@ -63,37 +64,6 @@ name_is name e =
 
 short_is : (n : ℤ) → is_short n ≡ true → IsShort n
 short_is n e = grind (arith, nat_tests)
-
--- the form by which a condition is read where it stands
-abbrev pub form_at : Standing → Grammar NamedCond
-form_at alone = cond
-form_at in_or = conj
-form_at in_and = neg
-form_at after_not = test
-
-place_test : (ps : List Piece) (R : NamedCond → Type 0) → Written test ps R → (standing : Standing) → Written (form_at standing) ps R
-place_test ps R w alone = conj_in_cond ps R (neg_in_conj ps R (test_in_neg ps R w))
-place_test ps R w in_or = neg_in_conj ps R (test_in_neg ps R w)
-place_test ps R w in_and = test_in_neg ps R w
-place_test ps R w after_not = w
-
-place_not : (ps : List Piece) (R : NamedCond → Type 0) → Written neg ps R → (standing : Standing) → Written (form_at standing) (in_parentheses_if (wraps_not standing) ps) R
-place_not ps R w alone = conj_in_cond ps R (neg_in_conj ps R w)
-place_not ps R w in_or = neg_in_conj ps R w
-place_not ps R w in_and = w
-place_not ps R w after_not = parens_in_test ps R (conj_in_cond ps R (neg_in_conj ps R w))
-
-place_and : (ps : List Piece) (R : NamedCond → Type 0) → Written conj ps R → (standing : Standing) → Written (form_at standing) (in_parentheses_if (wraps_and standing) ps) R
-place_and ps R w alone = conj_in_cond ps R w
-place_and ps R w in_or = w
-place_and ps R w in_and = test_in_neg (in_parentheses ps) R (parens_in_test ps R (conj_in_cond ps R w))
-place_and ps R w after_not = parens_in_test ps R (conj_in_cond ps R w)
-
-place_or : (ps : List Piece) (R : NamedCond → Type 0) → Written cond ps R → (standing : Standing) → Written (form_at standing) (in_parentheses_if (wraps_or standing) ps) R
-place_or ps R w alone = w
-place_or ps R w in_or = neg_in_conj (in_parentheses ps) R (test_in_neg (in_parentheses ps) R (parens_in_test ps R w))
-place_or ps R w in_and = test_in_neg (in_parentheses ps) R (parens_in_test ps R w)
-place_or ps R w after_not = parens_in_test ps R w
 
 -- ---- what a tree with names has to do with a part of a query, by the names in scope
 

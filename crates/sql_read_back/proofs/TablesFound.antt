@@ -18,7 +18,7 @@ use Rattle.prefsql_tables.specs.Valid.{IsTableSet}
 use Rattle.sql_tree.specs.Fits.{IsTableOf}
 use Rattle.sql_tree.specs.WellFormed.{domain_eq}
 use Rattle.sql_tree.specs.declared.tree.SqlTable.{SqlTable}
-use Rattle.sql_read_back.proofs.Back.{Meant}
+use Rattle.sql_read_back.proofs.QueriesBack.{Meant}
 
 same_bytes : (a b : List ℕ) → bytes_eq a b ≡ true → a ≡ b
 same_bytes a b e = (bytes_eq-Decides a b).0 e

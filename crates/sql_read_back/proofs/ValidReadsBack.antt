@@ -23,7 +23,7 @@ use Rattle.sql_read_back.proofs.Judged.{judged_query, judged_item, judged_from, 
 use Rattle.sql_read_back.proofs.JudgedEquations.{judged_query_is, judged_parts, own_items}
 use Rattle.sql_read_back.proofs.QueriesWritten.{AreShort}
 use Rattle.sql_read_back.proofs.ShortOrder.{items_within}
-use Rattle.sql_read_back.proofs.Nested.{statement_nests, statement_closes}
+use Rattle.sql_read_back.proofs.StatementsNest.{statement_nests, statement_closes}
 use Rattle.sql_read_back.proofs.ToldQueries.{query_told}
 use Rattle.sql_read_back.proofs.TablesFound.{stands, all_stand, meant}
 use Rattle.sql_read_back.proofs.ReadingBack.{texts_read_back}
