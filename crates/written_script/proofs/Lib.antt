@@ -1,2 +1,1 @@
-mod AlikeTables
-mod WrittenAnswers
+pub mod WrittenAnswers

@@ -20,7 +20,7 @@ use Rattle.sql_reader.proofs.OneReading.{reads_one, reads_or_fault}
 use Rattle.sql_read_back.specs.Texts.{AreWritable}
 use Rattle.sql_read_back.proofs.ValidReadsBack.{written_reads_back}
 use Rattle.written_script.specs.WrittenScript.{AreWritten, IsOther, answers_of_blocks, answers_of_queries, script_of, written}
-use Rattle.written_script.proofs.AlikeTables.{fits_other}
+use Rattle.alike_tables.proofs.AlikeTables.{fits_other}
 
 module _ (tables others : Tables) (other : IsOther tables others) where
   fit_others : (list : List Block) → All (BlockFits tables) list → All (BlockFits others) list

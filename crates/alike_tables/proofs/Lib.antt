@@ -1,0 +1,3 @@
+pub mod AlikeTables
+pub mod AlikeObligations
+pub mod AlikeBlocks
