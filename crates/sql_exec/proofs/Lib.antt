@@ -1,0 +1,4 @@
+pub mod ReadyReads
+pub mod Searches
+pub mod Sums
+pub mod Truths

@@ -1,0 +1,22 @@
+use Rattle.std.proofs.Common.{◌≡◌, map, Some, None, IfOk, sym, ap, ◌∙◌, subst}
+use Rattle.prefsql_values.specs.Value.{value_of}
+use Rattle.sql_tree.specs.Meaning.{first_some, or_else}
+use Rattle.sql_exec.specs.Ready.{value, when_value}
+use Rattle.sql_exec.specs.Seen.{found_value, scopes_seen}
+use Rattle.sql_exec.proofs.Searches.{chosen}
+use Rattle.sql_exec.proofs.evaluation.+evaluation.Goals as goal
+
+pub scalar_cell-returns-in-Some : goal.scalar_cell-returns-in-Some
+scalar_cell-returns-in-Some t c =
+    let scopes = scopes_seen c.args.own.now c.args.outer.now in
+    let same = c.in_ok-value-in-Case.ensures ∙ ap (λ ws. first_some (map (λ w. when_value w scopes) ws)) c.as_slice-in-Case.ensures in
+    let all = chosen c.args.scalar.now c.in-Case.whens c.in-Case.last scopes _ c.in-Case.is same in
+    sym (ap (λ found. or_else (found_value found) (value c.in-Case.last scopes)) c.in-Some.is) ∙ all
+
+pub scalar_cell-returns-in-None : goal.scalar_cell-returns-in-None
+scalar_cell-returns-in-None t c =
+    let scopes = scopes_seen c.args.own.now c.args.outer.now in
+    let same = c.in_ok-value-in-Case.ensures ∙ ap (λ ws. first_some (map (λ w. when_value w scopes) ws)) c.as_slice-in-Case.ensures in
+    let all = chosen c.args.scalar.now c.in-Case.whens c.in-Case.last scopes _ c.in-Case.is same in
+    let none = sym (ap (λ found. or_else (found_value found) (value c.in-Case.last scopes)) c.in-None.is) ∙ all in
+    subst (λ v. IfOk c.scalar_cell-in-None.result (λ cell. value_of cell ≡ v)) (ap (λ s. value s scopes) c.get-in-None.ensures ∙ none) c.scalar_cell-in-None.ensures

@@ -1,0 +1,42 @@
+use Rattle.std.proofs.Common.{◌≡◌, ◌++◌, [], ◌∷◌, true, pos, map, drop}
+use Rattle.std.specs.List.{list_any}
+use Rattle.prefsql_values.specs.Truth.{both_true, either_true, all_true, any_true}
+use Rattle.prefsql_values.specs.Value.{one_of, value_of}
+use Rattle.prefsql_values.specs.declared.value.Value.TheVariants.{Num}
+use Rattle.sql_tree.specs.Meaning.{added, first_some, sum_of}
+use Rattle.sql_exec.specs.Ready.{kept, truth, value, when_value}
+use Rattle.sql_exec.specs.Seen.{outer_seen, rows_seen, scopes_seen}
+use Rattle.sql_exec.proofs.evaluation.+evaluation.Given as goal
+
+abbrev pub invariant-first_true-loop-when : goal.invariant-first_true-loop-when
+invariant-first_true-loop-when l =
+    let values = map (λ w. when_value w (scopes_seen l.own l.outer)) in
+    first_some (values l.whens) ≡ first_some (values (drop l.when-index l.whens))
+
+abbrev pub invariant-sum-loop-term : goal.invariant-sum-loop-term
+invariant-sum-loop-term l =
+    let values = map (λ term. value term (scopes_seen l.own l.outer)) in
+    (sum_of (values l.terms) ≡ added (value_of l.sum) (sum_of (values (drop l.term-index l.terms)))) × (value_of l.sum ≡ added (value_of l.sum) (Num (pos 0)))
+
+abbrev pub invariant-all_hold-loop-part : goal.invariant-all_hold-loop-part
+invariant-all_hold-loop-part l =
+    let truths = map (λ part. truth part (scopes_seen l.own l.outer)) in
+    all_true (truths l.parts) ≡ both_true l.so_far (all_true (truths (drop l.part-index l.parts)))
+
+abbrev pub invariant-any_holds-loop-part : goal.invariant-any_holds-loop-part
+invariant-any_holds-loop-part l =
+    let truths = map (λ part. truth part (scopes_seen l.own l.outer)) in
+    any_true (truths l.parts) ≡ either_true l.so_far (any_true (truths (drop l.part-index l.parts)))
+
+abbrev pub invariant-is_one_of-loop-item : goal.invariant-is_one_of-loop-item
+invariant-is_one_of-loop-item l =
+    let values = map (λ b. value b (scopes_seen l.own l.outer)) in
+    one_of (value_of l.cell) (values l.list) ≡ either_true l.so_far (one_of (value_of l.cell) (values (drop l.item-index l.list)))
+
+abbrev pub invariant-is_found_in-loop-item : goal.invariant-is_found_in-loop-item
+invariant-is_found_in-loop-item l = record {
+  rows : l.rows.items ≡ l.fn.rows.items;
+  found :
+      let found = list_any (λ row. list_any (λ _. true) (kept l.below (rows_seen l.fn.rows.items ++ row ∷ []) (outer_seen l.outer))) in
+      found l.items ≡ found (drop l.item-index l.items);
+}

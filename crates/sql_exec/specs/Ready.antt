@@ -1,0 +1,63 @@
+-- What the parts of a query mean once each FROM item is the rows that it has. Which rows a part sees
+-- is as for SQL queries: those of the query that it stands in, and of the queries round it.
+use Rattle.std.specs.Prelude.{pos, neg_ℤ, Bool, true, false, if◌then◌else◌, Option, Some, None, List, [], ◌∷◌, ◌++◌, map}
+use Rattle.std.specs.List.{flat_map, list_any}
+use Rattle.prefsql_values.specs.declared.truth.Truth.{Truth}
+use Rattle.prefsql_values.specs.declared.value.Value.{Value}
+use Rattle.prefsql_values.specs.Truth.{negated, negated_if, all_true, any_true, is_true}
+use Rattle.prefsql_values.specs.Value.{comparison, between, one_of, truth_of, is_null}
+use Rattle.prefsql_tables.specs.declared.table.AnswerRow.{AnswerRow}
+use Rattle.sql_tree.specs.Meaning.{Scope, Scopes, place_value, signed, sum_of, or_else, first_some}
+use Rattle.sql_exec.specs.declared.ready.ReadyCond.{ReadyCond, fold-ReadyCond}
+use Rattle.sql_exec.specs.declared.ready.ReadyCond.TheOpen.{ReadyCond-F, ReadyScalar-F, ReadySearch-F, ReadyWhen-F}
+use Rattle.sql_exec.specs.declared.ready.ReadyScalar.{ReadyScalar, fold-ReadyScalar}
+use Rattle.sql_exec.specs.declared.ready.ReadySearch.{ReadySearch, fold-ReadySearch}
+use Rattle.sql_exec.specs.declared.ready.ReadyWhen.{ReadyWhen, fold-ReadyWhen}
+
+-- the scopes that a search keeps, each of which begins with these rows
+abbrev pub SearchMeaning : Type 0
+SearchMeaning = Scope → Scopes → List Scope
+
+abbrev pub Level : (Type 0 → Type 0 → Type 0 → Type 0 → Type 0) → Type 0
+Level F = F (Scopes → Truth) (Scopes → Value) SearchMeaning (Scopes → Option Value)
+
+abbrev pub cond_step : Level ReadyCond-F → Scopes → Truth
+cond_step (ReadyCond-F.And parts) scopes = all_true (map (λ part. part scopes) parts)
+cond_step (ReadyCond-F.Or parts) scopes = any_true (map (λ part. part scopes) parts)
+cond_step (ReadyCond-F.Not part) scopes = negated (part scopes)
+cond_step (ReadyCond-F.Compare op a b) scopes = comparison op (a scopes) (b scopes)
+cond_step (ReadyCond-F.Between negate a low high) scopes =
+    negated_if negate (between (a scopes) (low scopes) (high scopes))
+cond_step (ReadyCond-F.OneOf negate a list) scopes =
+    negated_if negate (one_of (a scopes) (map (λ b. b scopes) list))
+cond_step (ReadyCond-F.IsNull negate a) scopes = negated_if negate (truth_of (is_null (a scopes)))
+cond_step (ReadyCond-F.Exists search) scopes = truth_of (list_any (λ _. true) (search [] scopes))
+
+abbrev pub scalar_step : Level ReadyScalar-F → Scopes → Value
+scalar_step (ReadyScalar-F.Column place) scopes = place_value scopes place
+scalar_step (ReadyScalar-F.Constant value) scopes = value
+scalar_step (ReadyScalar-F.Negative scalar) scopes = signed true (scalar scopes)
+scalar_step (ReadyScalar-F.Sum terms) scopes = sum_of (map (λ term. term scopes) terms)
+scalar_step (ReadyScalar-F.Case whens last) scopes =
+    or_else (first_some (map (λ w. w scopes) whens)) (last scopes)
+
+abbrev pub when_step : Level ReadyWhen-F → Scopes → Option Value
+when_step w scopes = if is_true (w.cond scopes) then Some (w.value scopes) else None
+
+abbrev pub search_step : Level ReadySearch-F → SearchMeaning
+search_step (ReadySearch-F.Each rows below) own scopes =
+    flat_map (λ row. below (own ++ row ∷ []) scopes) rows
+search_step (ReadySearch-F.Test test) own scopes =
+    if is_true (test (own ∷ scopes)) then own ∷ [] else []
+
+unfoldable pub truth : ReadyCond → Scopes → Truth
+truth = fold-ReadyCond _ _ _ _ cond_step scalar_step search_step when_step
+
+unfoldable pub value : ReadyScalar → Scopes → Value
+value = fold-ReadyScalar _ _ _ _ cond_step scalar_step search_step when_step
+
+unfoldable pub kept : ReadySearch → SearchMeaning
+kept = fold-ReadySearch _ _ _ _ cond_step scalar_step search_step when_step
+
+unfoldable pub when_value : ReadyWhen → Scopes → Option Value
+when_value = fold-ReadyWhen _ _ _ _ cond_step scalar_step search_step when_step
