@@ -1,4 +1,10 @@
+pub mod Executed
+pub mod Gathered
+pub mod Nested
+pub mod Once
+pub mod Prepared
 pub mod ReadyReads
 pub mod Searches
 pub mod Sums
+pub mod TableRows
 pub mod Truths

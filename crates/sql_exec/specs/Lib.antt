@@ -1,2 +1,3 @@
+pub mod Preparing
 pub mod Ready
 pub mod Seen

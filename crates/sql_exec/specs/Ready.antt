@@ -11,7 +11,7 @@ use Rattle.sql_tree.specs.Meaning.{Scope, Scopes, place_value, signed, sum_of, o
 use Rattle.sql_exec.specs.declared.ready.ReadyCond.{ReadyCond, fold-ReadyCond}
 use Rattle.sql_exec.specs.declared.ready.ReadyCond.TheOpen.{ReadyCond-F, ReadyScalar-F, ReadySearch-F, ReadyWhen-F}
 use Rattle.sql_exec.specs.declared.ready.ReadyScalar.{ReadyScalar, fold-ReadyScalar}
-use Rattle.sql_exec.specs.declared.ready.ReadySearch.{ReadySearch, fold-ReadySearch}
+use Rattle.sql_exec.specs.declared.ready.ReadySearch.{ReadySearch, Each, fold-ReadySearch}
 use Rattle.sql_exec.specs.declared.ready.ReadyWhen.{ReadyWhen, fold-ReadyWhen}
 
 -- the scopes that a search keeps, each of which begins with these rows
@@ -61,3 +61,16 @@ kept = fold-ReadySearch _ _ _ _ cond_step scalar_step search_step when_step
 
 unfoldable pub when_value : ReadyWhen → Scopes → Option Value
 when_value = fold-ReadyWhen _ _ _ _ cond_step scalar_step search_step when_step
+
+-- what items show of the rows that they see
+abbrev pub row_of : List ReadyScalar → Scopes → AnswerRow
+row_of items scopes = record { cells = map (λ item. value item scopes) items }
+
+-- whether a condition keeps the rows that it sees
+abbrev pub keeps : ReadyCond → Scopes → Bool
+keeps cond scopes = is_true (truth cond scopes)
+
+-- a search through the rows of more items first
+abbrev pub nested : List (List AnswerRow) → ReadySearch → ReadySearch
+nested [] search = search
+nested (rows ∷ items) search = Each rows (nested items search)

@@ -1,6 +1,13 @@
 //! Runs SQL queries over a set of tables, under three-valued logic (ISO/IEC 9075:1992).
 #![tactic(auto)]
 
+mod distinct;
 mod evaluation;
+mod executing;
+mod gathering;
+mod laid_out;
+mod preparing;
 mod ready;
 mod scopes;
+
+pub use executing::execute;

@@ -1,0 +1,96 @@
+-- Each row once, at its first place.
+use Rattle.std.proofs.Common.{◌≡◌, Bool, true, false, not, ◌&&◌, ◌||◌, cond, List, [], ◌∷◌, ◌++◌, refl, sym, ap, ◌∙◌, inl, inr, append-nil, append_assoc}
+use Rattle.std.specs.List.{filter, list_any}
+use Rattle.std.proofs.lemmas.Bool.{cases_Bool}
+use Rattle.std.proofs.lemmas.List.Folds.{list_any-append}
+use Rattle.prefsql_tables.specs.declared.table.AnswerRow.{AnswerRow}
+use Rattle.prefsql_tables.specs.Distinct.{is_same_row, each_once}
+use Rattle.prefsql_tables.proofs.DistinctLemmas.{is_same_row-Decides}
+
+abbrev pub is_in : List AnswerRow → AnswerRow → Bool
+is_in kept row = list_any (λ other. is_same_row other row) kept
+
+-- one row more, if it is not there
+abbrev pub add_once : List AnswerRow → AnswerRow → List AnswerRow
+add_once kept row = cond (is_in kept row) kept (kept ++ row ∷ [])
+
+-- the rows with others added one after the other
+abbrev pub adding : List AnswerRow → List AnswerRow → List AnswerRow
+adding kept [] = kept
+adding kept (row ∷ rows) = adding (add_once kept row) rows
+
+abbrev is_other : AnswerRow → AnswerRow → Bool
+is_other row other = not (is_same_row row other)
+
+abbrev is_new : List AnswerRow → AnswerRow → Bool
+is_new kept row = not (is_in kept row)
+
+filter_by : (p q : AnswerRow → Bool) (row : AnswerRow) (rows : List AnswerRow) → filter p (filter q rows) ≡ filter (λ other. q other && p other) rows → (b : Bool)
+    → filter p (cond b (row ∷ filter q rows) (filter q rows)) ≡ cond (b && p row) (row ∷ filter (λ other. q other && p other) rows) (filter (λ other. q other && p other) rows)
+filter_by p q row rows rest true = ap (λ kept. cond (p row) (row ∷ kept) kept) rest
+filter_by p q row rows rest false = rest
+
+filter-filter : (p q : AnswerRow → Bool) (rows : List AnswerRow) → filter p (filter q rows) ≡ filter (λ other. q other && p other) rows
+filter-filter p q [] = refl
+filter-filter p q (row ∷ rows) = filter_by p q row rows (filter-filter p q rows) (q row)
+
+-- a row that is there already
+old_row : (kept : List AnswerRow) (row other : AnswerRow) → is_in kept row ≡ true → (is_other row other && is_new kept other) ≡ is_new kept other
+old_row kept row other there =
+    elim (cases_Bool (is_same_row row other)) [
+      | inl same ↦
+          let e : row ≡ other = (is_same_row-Decides row other).0 same in
+          ap (λ b. not b && is_new kept other) same ∙ sym (ap (λ r. not (is_in kept r)) (sym e) ∙ ap not there)
+      | inr different ↦ ap (λ b. not b && is_new kept other) different
+    ]
+
+new_pair : (a b : Bool) → (not b && not a) ≡ not (a || (b || false))
+new_pair true true = refl
+new_pair true false = refl
+new_pair false true = refl
+new_pair false false = refl
+
+-- a row that is not there yet
+new_row : (kept : List AnswerRow) (row other : AnswerRow) → (is_other row other && is_new kept other) ≡ is_new (kept ++ row ∷ []) other
+new_row kept row other =
+    new_pair (is_in kept other) (is_same_row row other) ∙ ap not (sym (list_any-append (λ r. is_same_row r other) kept (row ∷ [])))
+
+adding_is : (kept rows : List AnswerRow) → adding kept rows ≡ kept ++ filter (is_new kept) (each_once rows)
+adding_is kept [] = sym (append-nil kept)
+adding_is kept (row ∷ rows) =
+    elim (cases_Bool (is_in kept row)) [
+      | inl there ↦
+          ap (λ b. adding (cond b kept (kept ++ row ∷ [])) rows) there
+          ∙ adding_is kept rows
+          ∙ sym (λ j. kept ++ filter (λ other. old_row kept row other there j) (each_once rows))
+          ∙ ap (λ rest. kept ++ rest) (sym (filter-filter (is_new kept) (is_other row) (each_once rows)))
+          ∙ ap (λ b. kept ++ cond (not b) (row ∷ filter (is_new kept) (filter (is_other row) (each_once rows))) (filter (is_new kept) (filter (is_other row) (each_once rows)))) (sym there)
+      | inr gone ↦
+          ap (λ b. adding (cond b kept (kept ++ row ∷ [])) rows) gone
+          ∙ adding_is (kept ++ row ∷ []) rows
+          ∙ append_assoc kept (row ∷ []) (filter (is_new (kept ++ row ∷ [])) (each_once rows))
+          ∙ sym (λ j. kept ++ row ∷ filter (λ other. new_row kept row other j) (each_once rows))
+          ∙ ap (λ rest. kept ++ row ∷ rest) (sym (filter-filter (is_new kept) (is_other row) (each_once rows)))
+          ∙ ap (λ b. kept ++ cond (not b) (row ∷ filter (is_new kept) (filter (is_other row) (each_once rows))) (filter (is_new kept) (filter (is_other row) (each_once rows)))) (sym gone)
+    ]
+
+all_new : (rows : List AnswerRow) → filter (is_new []) rows ≡ rows
+all_new [] = refl
+all_new (row ∷ rows) = ap (λ rest. row ∷ rest) (all_new rows)
+
+-- added to none, they are there once each
+pub adding_all : (rows : List AnswerRow) → adding [] rows ≡ each_once rows
+adding_all rows = adding_is [] rows ∙ all_new (each_once rows)
+
+-- a row that is not there yet is added
+pub step_new : (kept seen pushed rest old all : List AnswerRow) (row : AnswerRow) → adding kept old ≡ all → old ≡ row ∷ rest → seen ≡ kept → is_in seen row ≡ false → pushed ≡ kept ++ row ∷ []
+    → adding pushed rest ≡ all
+step_new kept seen pushed rest old all row before is same gone after =
+    ap (λ (now : List AnswerRow). adding now rest) (after ∙ sym (ap (λ (b : Bool). cond b kept (kept ++ row ∷ [])) (sym (ap (λ (rows : List AnswerRow). is_in rows row) same) ∙ gone)))
+    ∙ sym (ap (λ (rows : List AnswerRow). adding kept rows) is) ∙ before
+
+-- and one that is there is not
+pub step_old : (kept seen rest old all : List AnswerRow) (row : AnswerRow) → adding kept old ≡ all → old ≡ row ∷ rest → seen ≡ kept → is_in seen row ≡ true → adding kept rest ≡ all
+step_old kept seen rest old all row before is same there =
+    ap (λ (now : List AnswerRow). adding now rest) (sym (ap (λ (b : Bool). cond b kept (kept ++ row ∷ [])) (sym (ap (λ (rows : List AnswerRow). is_in rows row) same) ∙ there)))
+    ∙ sym (ap (λ (rows : List AnswerRow). adding kept rows) is) ∙ before

@@ -1,0 +1,23 @@
+use Rattle.std.proofs.Common.{◌≡◌, map, take}
+use Rattle.sql_tree.specs.Meaning.{from_rows, item_value, term_value, truth_in, value_in}
+use Rattle.sql_tree.specs.Meaning as meaning
+use Rattle.sql_exec.specs.Ready.{truth, value, when_value}
+use Rattle.sql_exec.proofs.preparing.+preparing.Given as goal
+
+abbrev pub invariant-ready_conds-loop-cond : goal.invariant-ready_conds-loop-cond
+invariant-ready_conds-loop-cond l = map truth l.ready ≡ map (truth_in l.tables) (take l.cond-index l.conds)
+
+abbrev pub invariant-ready_scalars-loop-scalar : goal.invariant-ready_scalars-loop-scalar
+invariant-ready_scalars-loop-scalar l = map value l.ready ≡ map (value_in l.tables) (take l.scalar-index l.scalars)
+
+abbrev pub invariant-ready_whens-loop-when : goal.invariant-ready_whens-loop-when
+invariant-ready_whens-loop-when l = map when_value l.ready ≡ map (meaning.when_value l.tables) (take l.when-index l.whens)
+
+abbrev pub invariant-ready_terms-loop-term : goal.invariant-ready_terms-loop-term
+invariant-ready_terms-loop-term l = map value l.ready ≡ map (term_value l.tables) (take l.term-index l.terms)
+
+abbrev pub invariant-ready_items-loop-item : goal.invariant-ready_items-loop-item
+invariant-ready_items-loop-item l = map value l.ready ≡ map (item_value l.tables) (take l.item-index l.items)
+
+abbrev pub invariant-all_rows-loop-item : goal.invariant-all_rows-loop-item
+invariant-all_rows-loop-item l = l.all ≡ map (from_rows l.tables) (take l.item-index l.from)

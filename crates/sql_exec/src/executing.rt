@@ -1,0 +1,40 @@
+//! The answer of a query.
+ghost use Rattle.std.specs.Prelude.{◌≡◌, map, IfOk};
+ghost use Rattle.sql_tree.specs.Fits.{FitsTables};
+ghost use Rattle.sql_tree.specs.Meaning.{answer_of};
+ghost use Rattle.sql_tree.specs.WellFormed.{IsWellFormed};
+ghost use Rattle.sql_tree.specs.declared.tree.SqlItem.{SqlItem};
+
+use crate::preparing::rows_selected;
+use prefsql_tables::{Answer, TableSet};
+use prefsql_values::{List, Memory, Text};
+use sql_tree::{SqlItem, SqlQuery};
+use std::alloc::Global;
+
+/// The answer of a query over a set of tables (ISO/IEC 9075:1992, query expression): the names of its
+/// items, and its rows by its keys and then by all columns. It is an error only for want of memory.
+///
+/// Needs a query that is well formed, and tables that it fits. A derived table is computed once, EXISTS
+/// stops at its first row, and no product of FROM items is stored.
+pub fn execute(alloc: Global, query: &SqlQuery, tables: &TableSet) -> Result<Answer, Memory>
+    requires formed { IsWellFormed query.now }
+    requires fits { FitsTables tables.now query.now }
+    ensures { IfOk result (λ answer. answer ≡ answer_of tables.now query.now) }
+{
+    let names = item_names(alloc, query.items.as_slice())?;
+    let rows = rows_selected(alloc, query, tables)?;
+    let unsorted = Answer { names, rows };
+    let answer = unsorted.arrange(alloc, query.distinct, query.order.as_slice())?;
+    Ok(answer)
+}
+
+/// The names of the items of a query.
+fn item_names(alloc: Global, items: &[SqlItem]) -> Result<List<Text>, Memory>
+    ensures { IfOk result (λ names. names ≡ map (λ (item : SqlItem). item.name) items.now) }
+{
+    let mut names = List::new(alloc);
+    for item in items {
+        names.push(item.name.copy(alloc)?)?;
+    }
+    Ok(names)
+}

@@ -1,0 +1,337 @@
+//! Makes queries ready to be run: each table that a query names is laid out, and each derived table
+//! is computed, once.
+ghost use Rattle.std.specs.Prelude.{◌≡◌, [], ◌∷◌, map, IfOk};
+ghost use Rattle.std.specs.Option.{option_map};
+ghost use Rattle.prefsql_tables.specs.Table.{rows_of};
+ghost use Rattle.sql_tree.specs.Meaning.{Scopes, else_value, from_rows, is_kept, item_value, rows_in, source_rows, term_value, truth_in, value_in, when_value as sql_when_value};
+ghost use Rattle.sql_exec.specs.Preparing.{rows_selected, scopes_kept};
+ghost use Rattle.sql_exec.specs.Ready.{keeps, kept, nested, row_of, truth, value, when_value};
+
+use crate::distinct::once;
+use crate::gathering::gather;
+use crate::laid_out::table_rows;
+use crate::ready::{ReadyCond, ReadyScalar, ReadySearch, ReadyWhen};
+use prefsql_tables::{AnswerRow, TableSet};
+use prefsql_values::{Boxed, List, Memory, Value};
+use sql_tree::{
+    SqlCond, SqlFrom, SqlItem, SqlQuery, SqlScalar, SqlSource, SqlTable, SqlWhen, SumTerm,
+};
+use std::alloc::Global;
+
+/// A condition made ready.
+#[cycle(preparing)]
+fn ready_cond(alloc: Global, cond: &SqlCond, tables: &TableSet) -> Result<ReadyCond, Memory>
+    ensures { IfOk result (λ ready. truth ready ≡ truth_in tables.now cond.now) }
+{
+    match cond {
+        SqlCond::And(parts) => {
+            let parts = ready_conds(alloc, parts.as_slice(), tables)?;
+            Ok(ReadyCond::And(parts))
+        }
+        SqlCond::Or(parts) => {
+            let parts = ready_conds(alloc, parts.as_slice(), tables)?;
+            Ok(ReadyCond::Or(parts))
+        }
+        SqlCond::Not(part) => {
+            let part = ready_cond(alloc, part.get(), tables)?;
+            Ok(ReadyCond::Not(Boxed::new(alloc, part)?))
+        }
+        SqlCond::Compare(op, a, b) => {
+            let a = ready_scalar(alloc, a, tables)?;
+            let b = ready_scalar(alloc, b, tables)?;
+            Ok(ReadyCond::Compare(*op, a, b))
+        }
+        SqlCond::Between(negate, a, low, high) => {
+            let a = ready_scalar(alloc, a, tables)?;
+            let low = ready_scalar(alloc, low, tables)?;
+            let high = ready_scalar(alloc, high, tables)?;
+            Ok(ReadyCond::Between(*negate, a, low, high))
+        }
+        SqlCond::OneOf(negate, a, list) => {
+            let a = ready_scalar(alloc, a, tables)?;
+            let list = ready_scalars(alloc, list.as_slice(), tables)?;
+            Ok(ReadyCond::OneOf(*negate, a, list))
+        }
+        SqlCond::IsNull(negate, a) => {
+            let a = ready_scalar(alloc, a, tables)?;
+            Ok(ReadyCond::IsNull(*negate, a))
+        }
+        SqlCond::Exists(query) => {
+            let search = ready_search(alloc, query.get(), tables)?;
+            Ok(ReadyCond::Exists(Boxed::new(alloc, search)?))
+        }
+    }
+}
+
+/// Conditions made ready.
+#[cycle(preparing)]
+fn ready_conds(
+    alloc: Global,
+    conds: &[SqlCond],
+    tables: &TableSet,
+) -> Result<List<ReadyCond>, Memory>
+    ensures { IfOk result (λ ready. map truth ready ≡ map (truth_in tables.now) conds.now) }
+{
+    let mut ready = List::new(alloc);
+    for cond in conds {
+        ready.push(ready_cond(alloc, cond, tables)?)?;
+    }
+    Ok(ready)
+}
+
+/// A scalar made ready.
+#[cycle(preparing)]
+fn ready_scalar(alloc: Global, scalar: &SqlScalar, tables: &TableSet) -> Result<ReadyScalar, Memory>
+    ensures { IfOk result (λ ready. value ready ≡ value_in tables.now scalar.now) }
+{
+    match scalar {
+        SqlScalar::Column(place) => Ok(ReadyScalar::Column(*place)),
+        SqlScalar::Number(n) => Ok(ReadyScalar::Constant(Value::Num(i128::from(*n)))),
+        SqlScalar::Chars(text) => Ok(ReadyScalar::Constant(Value::Str(text.copy(alloc)?))),
+        SqlScalar::Sum(terms) => {
+            let terms = ready_terms(alloc, terms.as_slice(), tables)?;
+            Ok(ReadyScalar::Sum(terms))
+        }
+        SqlScalar::Case(whens, last) => {
+            let whens = ready_whens(alloc, whens.as_slice(), tables)?;
+            let last = ready_else(alloc, last, tables)?;
+            Ok(ReadyScalar::Case(whens, Boxed::new(alloc, last)?))
+        }
+    }
+}
+
+/// Scalars made ready.
+#[cycle(preparing)]
+fn ready_scalars(
+    alloc: Global,
+    scalars: &[SqlScalar],
+    tables: &TableSet,
+) -> Result<List<ReadyScalar>, Memory>
+    ensures { IfOk result (λ ready. map value ready ≡ map (value_in tables.now) scalars.now) }
+{
+    let mut ready = List::new(alloc);
+    for scalar in scalars {
+        ready.push(ready_scalar(alloc, scalar, tables)?)?;
+    }
+    Ok(ready)
+}
+
+/// What stands after ELSE made ready, and NULL where it is not written.
+#[cycle(preparing)]
+fn ready_else(
+    alloc: Global,
+    last: &Option<Boxed<SqlScalar>>,
+    tables: &TableSet,
+) -> Result<ReadyScalar, Memory>
+    ensures { IfOk result (λ ready. value ready ≡ else_value (option_map (value_in tables.now) last.now)) }
+{
+    match last {
+        Some(last) => ready_scalar(alloc, last.get(), tables),
+        None => Ok(ReadyScalar::Constant(Value::Null)),
+    }
+}
+
+/// WHENs made ready.
+#[cycle(preparing)]
+fn ready_whens(
+    alloc: Global,
+    whens: &[SqlWhen],
+    tables: &TableSet,
+) -> Result<List<ReadyWhen>, Memory>
+    ensures { IfOk result (λ ready. map when_value ready ≡ map (sql_when_value tables.now) whens.now) }
+{
+    let mut ready = List::new(alloc);
+    for when in whens {
+        ready.push(ready_when(alloc, when, tables)?)?;
+    }
+    Ok(ready)
+}
+
+/// A WHEN made ready.
+#[cycle(preparing)]
+fn ready_when(alloc: Global, when: &SqlWhen, tables: &TableSet) -> Result<ReadyWhen, Memory>
+    ensures { IfOk result (λ ready. when_value ready ≡ sql_when_value tables.now when.now) }
+{
+    let cond = ready_cond(alloc, &when.cond, tables)?;
+    let value = ready_scalar(alloc, &when.value, tables)?;
+    Ok(ReadyWhen { cond, value })
+}
+
+/// The terms of a sum made ready.
+#[cycle(preparing)]
+fn ready_terms(
+    alloc: Global,
+    terms: &[SumTerm],
+    tables: &TableSet,
+) -> Result<List<ReadyScalar>, Memory>
+    ensures { IfOk result (λ ready. map value ready ≡ map (term_value tables.now) terms.now) }
+{
+    let mut ready = List::new(alloc);
+    for term in terms {
+        ready.push(ready_term(alloc, term, tables)?)?;
+    }
+    Ok(ready)
+}
+
+/// A term of a sum made ready.
+#[cycle(preparing)]
+fn ready_term(alloc: Global, term: &SumTerm, tables: &TableSet) -> Result<ReadyScalar, Memory>
+    ensures { IfOk result (λ ready. value ready ≡ term_value tables.now term.now) }
+{
+    let scalar = ready_scalar(alloc, &term.scalar, tables)?;
+    if term.minus {
+        Ok(ReadyScalar::Negative(Boxed::new(alloc, scalar)?))
+    } else {
+        Ok(scalar)
+    }
+}
+
+/// The items of a query made ready.
+#[cycle(preparing)]
+fn ready_items(
+    alloc: Global,
+    items: &[SqlItem],
+    tables: &TableSet,
+) -> Result<List<ReadyScalar>, Memory>
+    ensures { IfOk result (λ ready. map value ready ≡ map (item_value tables.now) items.now) }
+{
+    let mut ready = List::new(alloc);
+    for item in items {
+        ready.push(ready_item(alloc, item, tables)?)?;
+    }
+    Ok(ready)
+}
+
+/// An item of a query made ready.
+#[cycle(preparing)]
+fn ready_item(alloc: Global, item: &SqlItem, tables: &TableSet) -> Result<ReadyScalar, Memory>
+    ensures { IfOk result (λ ready. value ready ≡ item_value tables.now item.now) }
+{
+    ready_scalar(alloc, &item.value, tables)
+}
+
+/// A WHERE made ready, and a condition that is True where it is not written.
+#[cycle(preparing)]
+fn ready_filter(
+    alloc: Global,
+    filter: &Option<SqlCond>,
+    tables: &TableSet,
+) -> Result<ReadyCond, Memory>
+    ensures { IfOk result (λ ready. keeps ready ≡ is_kept (option_map (truth_in tables.now) filter.now)) }
+{
+    match filter {
+        Some(cond) => ready_cond(alloc, cond, tables),
+        None => Ok(ReadyCond::And(List::new(alloc))),
+    }
+}
+
+/// The rows of FROM items.
+#[cycle(preparing)]
+fn all_rows(
+    alloc: Global,
+    from: &[SqlFrom],
+    tables: &TableSet,
+) -> Result<List<List<AnswerRow>>, Memory>
+    ensures { IfOk result (λ all. all ≡ map (from_rows tables.now) from.now) }
+{
+    let mut all = List::new(alloc);
+    for item in from {
+        all.push(item_rows(alloc, item, tables)?)?;
+    }
+    Ok(all)
+}
+
+/// The rows of a FROM item.
+#[cycle(preparing)]
+fn item_rows(alloc: Global, item: &SqlFrom, tables: &TableSet) -> Result<List<AnswerRow>, Memory>
+    ensures { IfOk result (λ rows. rows ≡ from_rows tables.now item.now) }
+{
+    match &item.source {
+        SqlSource::Table(table) => stored_rows(alloc, table, tables),
+        SqlSource::Derived(query) => query_rows(alloc, query.get(), tables),
+    }
+}
+
+/// The rows of a table.
+fn stored_rows(
+    alloc: Global,
+    table: &SqlTable,
+    tables: &TableSet,
+) -> Result<List<AnswerRow>, Memory>
+    ensures { IfOk result (λ rows. rows ≡ rows_of tables.now table.now.index) }
+{
+    if tables.has_table_at(table.index, table.name.as_str(), &table.schema) {
+        table_rows(alloc, tables, table.index)
+    } else {
+        Err(Memory)
+    }
+}
+
+/// The FROM and the WHERE of a query made ready.
+#[cycle(preparing)]
+fn ready_search(alloc: Global, query: &SqlQuery, tables: &TableSet) -> Result<ReadySearch, Memory>
+    ensures { IfOk result (λ ready. kept ready [] ≡ scopes_kept tables.now query.now) }
+{
+    let test = ready_filter(alloc, &query.filter, tables)?;
+    let all = all_rows(alloc, query.from.as_slice(), tables)?;
+    let search = nested(alloc, all.into_vec(), test)?;
+    Ok(search)
+}
+
+/// The search that goes through the rows of each item, and then asks the condition.
+fn nested(
+    alloc: Global,
+    items: Vec<List<AnswerRow>>,
+    test: ReadyCond,
+) -> Result<ReadySearch, Memory>
+    ensures { IfOk result (λ search. search ≡ nested items.items (ReadySearch.Test test)) }
+{
+    let mut items = items;
+    let mut search = ReadySearch::Test(test);
+    while let Some(rows) = items.pop() {
+        search = ReadySearch::Each(rows, Boxed::new(alloc, search)?);
+    }
+    Ok(search)
+}
+
+/// The rows of a query that no rows stand round, before DISTINCT.
+#[cycle(preparing)]
+pub(crate) fn rows_selected(
+    alloc: Global,
+    query: &SqlQuery,
+    tables: &TableSet,
+) -> Result<List<AnswerRow>, Memory>
+    ensures { IfOk result (λ rows. rows ≡ rows_selected tables.now query.now []) }
+{
+    let search = ready_search(alloc, query, tables)?;
+    let items = ready_items(alloc, query.items.as_slice(), tables)?;
+    shown(alloc, &search, items.as_slice())
+}
+
+/// The rows of the scopes that a search keeps where no rows stand round it.
+fn shown(
+    alloc: Global,
+    search: &ReadySearch,
+    items: &[ReadyScalar],
+) -> Result<List<AnswerRow>, Memory>
+    ensures { IfOk result (λ rows. rows ≡ map (λ scope. row_of items.now (scope ∷ [])) (kept search.now [] [])) }
+{
+    let outer = Vec::new(alloc);
+    let mut own = Vec::new(alloc);
+    let mut rows = List::new(alloc);
+    gather(alloc, search, items, &mut own, outer.as_slice(), &mut rows)?;
+    Ok(rows)
+}
+
+/// The rows of a query that no rows stand round.
+#[cycle(preparing)]
+fn query_rows(alloc: Global, query: &SqlQuery, tables: &TableSet) -> Result<List<AnswerRow>, Memory>
+    ensures { IfOk result (λ rows. rows ≡ rows_in tables.now query.now []) }
+{
+    let rows = rows_selected(alloc, query, tables)?;
+    if query.distinct {
+        once(alloc, rows)
+    } else {
+        Ok(rows)
+    }
+}
