@@ -1,6 +1,6 @@
 -- What the further words of a command line come to, in the words of its definition.
 use Rattle.std.proofs.Common.{◌≡◌, ◌∙◌, ◌+◌, ◌≤◌, ℕ, List, [], ◌∷◌, ◌++◌, Bool, true, false, not, cond, refl, sym, ap, ap₂, arith, append-nil, append_assoc, nat_lt, count_by, filter}
-use Rattle.std.specs.List.{before_first, after_first, sum_by}
+use Rattle.std.specs.List.{before_first, after_first}
 use Rattle.std.proofs.lemmas.List.Sums.{sum_by-cons}
 use Rattle.clap.specs.Walk.{Text}
 use Rattle.prefsql_session.specs.CommandLine.{is_end, is_stats, operands, stats_among}

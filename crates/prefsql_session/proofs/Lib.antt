@@ -1,7 +1,10 @@
+mod AnswerLemmas
 mod EachLemmas
 mod Follow
 mod Meaning
+mod BenchLemmas
 mod NameLemmas
+mod NumberLemmas
 mod OneEnd
 mod OpeningLemmas
 mod PrepareLemmas

@@ -9,9 +9,10 @@ use Rattle.clap.specs.Simple.{built, matches_of}
 use Rattle.clap.specs.Takes.{bundle_passes, flag_word_passes, step_passes, turn_passes, is_valid, takes, walk_passes}
 use Rattle.clap.specs.Values.{bool_text}
 use Rattle.clap.specs.Walk.{Held, Step, Text, Walk, finished, nothing_held, value, walk, walk_from, walked, with_default, word_met}
-use Rattle.prefsql_session.specs.CommandLine.{begins_plain, is_plain, each, is_identifier, table_word, task_named, accepted, command_of, operands, stats_among}
-use Rattle.prefsql_session.specs.declared.command.Command.TheVariants.{OnScript}
+use Rattle.prefsql_session.specs.CommandLine.{begins_plain, is_plain, bench_count, each, is_identifier, script_command, table_word, task_named, accepted, command_of, operands, stats_among}
+use Rattle.prefsql_session.specs.declared.command.Command.TheVariants.{Bench, OnScript}
 use Rattle.prefsql_session.specs.declared.command.Task.{Task}
+use Rattle.std.specs.Str.{bytes_eq}
 use Rattle.prefsql_session.specs.WordsApp.{Reads, words_app}
 use Rattle.prefsql_session.proofs.WalkOf.{before_first-later, rules}
 use Rattle.prefsql_session.proofs.StateOf.{At, Layout, bare, operands_alone, stats_alone, operands_first, stats_first, follow, rows_in, walk_follows}
@@ -135,8 +136,18 @@ each_plain (word ∷ words) not_plain = go (each_plain words) (is_plain word) re
     go rest true is = rest_none (table_word word) (each table_word words) (rest (sym (ap (λ b. b && list_all is_plain words) is) ∙ not_plain))
     go rest false is = rw (table_word_plain word is) refl
 
-words_plain : (name : Text) (counts : Bool) (words : List Text) → list_all is_plain words ≡ false → command_of name counts words ≡ None
-words_plain name counts words not_plain =
+count_plain : (words : List Text) → list_all is_plain words ≡ false → bench_count words ≡ None
+count_plain [] not_plain = absurd (true≢false not_plain)
+count_plain ([] ∷ []) not_plain = absurd (true≢false not_plain)
+count_plain ((c ∷ cs) ∷ []) not_plain = go (c == 45) refl
+  where
+    go : (b : Bool) → (c == 45) ≡ b → bench_count ((c ∷ cs) ∷ []) ≡ None
+    go false other = absurd (true≢false (sym (ap (λ b. not b && true) other) ∙ not_plain))
+    go true same = let hyphen : c ≡ 45 = grind arith in rw hyphen refl
+count_plain (word ∷ other ∷ words) not_plain = refl
+
+script_plain : (name : Text) (counts : Bool) (words : List Text) → list_all is_plain words ≡ false → script_command name counts words ≡ None
+script_plain name counts words not_plain =
     ap (λ tables. option_and_then (λ task. option_map (OnScript task) (if nat_le (length words) 8 then tables else None)) (task_named name counts))
     (each_plain words not_plain)
     ∙ none (nat_le (length words) 8) (task_named name counts)
@@ -145,6 +156,14 @@ words_plain name counts words not_plain =
     none few None = refl
     none true (Some t) = refl
     none false (Some t) = refl
+
+words_plain : (name : Text) (counts : Bool) (words : List Text) → list_all is_plain words ≡ false → command_of name counts words ≡ None
+words_plain name counts words not_plain = either (bytes_eq name (codes "bench")) counts
+  where
+    either : (b flag : Bool) → (if b then (if flag then None else option_map Bench (bench_count words)) else script_command name counts words) ≡ None
+    either true true = refl
+    either true false = ap (option_map Bench) (count_plain words not_plain)
+    either false flag = script_plain name counts words not_plain
 
 -- a first word that begins with a hyphen is no command
 pub name_plain : (name : Text) (words : List Text) → is_plain name ≡ false → accepted (name ∷ words) ≡ None

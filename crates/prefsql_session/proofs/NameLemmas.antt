@@ -1,5 +1,5 @@
 -- The table words of accepted words are few, and their names are names of tables.
-use Rattle.std.proofs.Common.{◌≡◌, ◌∙◌, ◌≤◌, ◌<◌, ℕ, suc, List, [], ◌∷◌, length, Bool, true, false, ◌&&◌, ◌||◌, if◌then◌else◌, Option, Some, None, All, refl, ap, subst, arith, nat_lt, nat_le}
+use Rattle.std.proofs.Common.{◌≡◌, ◌∙◌, ◌≤◌, ◌<◌, ℕ, suc, List, [], ◌∷◌, length, Bool, true, false, ◌&&◌, ◌||◌, if◌then◌else◌, Option, Some, None, All, refl, ap, subst, arith, codes, nat_lt, nat_le}
 use Rattle.std.proofs.lemmas.Bool.Decides.{nat_tests}
 use Rattle.std.proofs.lemmas.List.{length-map}
 use Rattle.std.proofs.lemmas.Str.{chars-IsAscii}
@@ -8,13 +8,15 @@ use Rattle.std.specs.Char.{is_ascii_alphabetic, is_ascii_alphanumeric, to_ascii_
 use Rattle.std.specs.List.{after_first, before_first, list_all}
 use Rattle.std.specs.Option.{option_map, option_and_then}
 use Rattle.std.specs.Prelude.{◌==◌}
-use Rattle.std.specs.Str.{IsAscii, chars, str_to_ascii_uppercase}
+use Rattle.std.specs.Str.{IsAscii, bytes_eq, chars, str_to_ascii_uppercase}
+use Rattle.std.specs.Str.Parse.{digits_value}
 use Rattle.prefsql_values.specs.Limits.{IsName}
-use Rattle.prefsql_session.specs.CommandLine.{accepted, command_of, each, is_identifier, operands, stats_among, table_word, table_words, task_named}
+use Rattle.prefsql_session.specs.CommandLine.{accepted, bench_count, command_of, each, is_identifier, is_number, operands, stats_among, script_command, table_word, table_words, task_named}
 use Rattle.prefsql_session.specs.declared.command.Command.{Command}
-use Rattle.prefsql_session.specs.declared.command.Command.TheVariants.{OnScript}
+use Rattle.prefsql_session.specs.declared.command.Command.TheVariants.{Bench, OnScript}
 use Rattle.prefsql_session.specs.declared.command.TableWord.{TableWord}
 use Rattle.prefsql_session.specs.declared.command.Task.{Task}
+use Rattle.prefsql_session.specs.Texts.{IsBenchCount}
 use Rattle.prefsql_session.proofs.EachLemmas.{each-all, length-each}
 
 left : (a b : Bool) → (a && b) ≡ true → a ≡ true
@@ -76,6 +78,7 @@ pub record AreNamed (tables : List TableWord) : Type 0 where
 -- the same of a command
 abbrev pub IsNamedCommand : Command → Type 0
 IsNamedCommand (OnScript task tables) = AreNamed tables
+IsNamedCommand (Bench count) = IsBenchCount count
 
 words_named : (words : List (List ℕ)) (tables : List TableWord) → table_words words ≡ Some tables → AreNamed tables
 words_named words tables is = go (nat_le (length words) 8) refl is
@@ -93,6 +96,31 @@ command_named None tables command named is = absurd (cc)
 command_named (Some t) None command named is = absurd (cc)
 command_named (Some t) (Some ws) command named is = let same : OnScript t ws ≡ command = cc in subst IsNamedCommand same (named ws refl)
 
+count_named_if : (word : List ℕ) (command : Command) (b : Bool) → (is_number word && nat_le 1 (digits_value 10 word) && nat_le (digits_value 10 word) 100000) ≡ b
+    → option_map Bench (if b then Some (digits_value 10 word) else None) ≡ Some command → IsNamedCommand command
+count_named_if word command false test is = absurd (cc)
+count_named_if word command true test is =
+    let count = digits_value 10 word in
+    let before = left (is_number word && nat_le 1 count) (nat_le count 100000) test in
+    let same : Bench count ≡ command = cc in
+    subst IsNamedCommand same (record {
+      some = at_most 1 count (right (is_number word) (nat_le 1 count) before);
+      few = at_most count 100000 (right (is_number word && nat_le 1 count) (nat_le count 100000) test);
+    })
+
+count_named : (words : List (List ℕ)) (command : Command) → option_map Bench (bench_count words) ≡ Some command → IsNamedCommand command
+count_named [] command is = absurd (cc)
+count_named (word ∷ []) command is =
+    count_named_if word command (is_number word && nat_le 1 (digits_value 10 word) && nat_le (digits_value 10 word) 100000) refl is
+count_named (word ∷ other ∷ words) command is = absurd (cc)
+
+either_named : (name : List ℕ) (counts : Bool) (words : List (List ℕ)) (command : Command) (b : Bool)
+    → (if b then (if counts then None else option_map Bench (bench_count words)) else script_command name counts words) ≡ Some command → IsNamedCommand command
+either_named name true words command true is = absurd (cc)
+either_named name false words command true is = count_named words command is
+either_named name counts words command false is =
+    command_named (task_named name counts) (table_words words) command (words_named words) is
+
 pub accepted_named : (words : List (List ℕ)) (command : Command) → accepted words ≡ Some command → IsNamedCommand command
 accepted_named [] command is = absurd (cc)
 accepted_named (name ∷ words) command is = go (nat_le (stats_among words) 1) is
@@ -100,4 +128,4 @@ accepted_named (name ∷ words) command is = go (nat_le (stats_among words) 1) i
     go : (b : Bool) → (if b then command_of name (stats_among words == 1) (operands words) else None) ≡ Some command → IsNamedCommand command
     go false e = absurd (cc)
     go true e =
-        command_named (task_named name (stats_among words == 1)) (table_words (operands words)) command (words_named (operands words)) e
+        either_named name (stats_among words == 1) (operands words) command (bytes_eq name (codes "bench")) e

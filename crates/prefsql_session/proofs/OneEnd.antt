@@ -15,7 +15,7 @@ use Rattle.query_tree.specs.declared.query.QueryTree.{QueryTree}
 use Rattle.prefsql_session.specs.Course.{Comes, GoesOn, HasOneEnd, ScriptComesTo}
 use Rattle.query_typing.specs.Typing.{AreTyped, IsFirstOfScript}
 use Rattle.prefsql_session.proofs.TypingLaws.{one_blocks, one_typing_fault, typing_apart}
-use Rattle.prefsql_session.specs.Opening.{Job, over, opening}
+use Rattle.prefsql_session.specs.Opening.{Job, bench_of, over, opening}
 use Rattle.prefsql_session.specs.ScriptEnd.{AsksFor, HasFault, HasQueryFault, IsScriptFault, IsScriptWork, IsWork}
 use Rattle.prefsql_session.specs.declared.work.Work.{Work}
 use Rattle.prefsql_session.specs.declared.work.Work.TheVariants.{Statements}
@@ -126,6 +126,7 @@ goes_on barred script one other p q = p ∙ sym q
 goes_on unaccepted script one other p q = p ∙ sym q
 goes_on missing script one other p q = p ∙ sym q
 goes_on (faulty fault) script one other p q = p ∙ sym q
+goes_on (ready (bench_of count)) script one other p q = p ∙ sym q
 goes_on (ready (over task tables)) None one other p q = p ∙ sym q
 goes_on (ready (over task tables)) (Some text) one other p q = script_end task tables text one other p q
 

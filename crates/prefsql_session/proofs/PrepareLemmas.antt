@@ -19,13 +19,14 @@ use Rattle.prefsql_values.specs.Limits.{IsName}
 use Rattle.prefsql_session.specs.Stops.{parsing, typing}
 use Rattle.prefsql_session.proofs.NameLemmas.{IsNamedCommand}
 use Rattle.prefsql_session.specs.Course.{GoesOn}
-use Rattle.prefsql_session.specs.Opening.{Job, over, job_stage}
+use Rattle.prefsql_session.specs.Opening.{Job, job_stage, over}
 use Rattle.prefsql_session.specs.Parts.{Asks, Ends, Opens, Prepares, Reads}
-use Rattle.prefsql_session.specs.Run.{AsksForTables}
+use Rattle.prefsql_session.specs.Run.{AsksForTables, AtEnd}
 use Rattle.prefsql_session.specs.ScriptEnd.{AsksFor, HasQueryFault, script_limit}
 use Rattle.prefsql_session.specs.Stage.{Stage, untold, barred, unaccepted, missing, faulty, ready, and_then, ready_or, MayGive}
 use Rattle.prefsql_session.specs.declared.command.Command.{Command}
 use Rattle.prefsql_session.specs.declared.command.Command.TheVariants.{OnScript}
+use Rattle.prefsql_session.specs.declared.command.Command.TheVariants as command
 use Rattle.prefsql_session.specs.declared.command.TableWord.{TableWord}
 use Rattle.prefsql_session.specs.declared.command.Task.{Task}
 use Rattle.prefsql_session.specs.declared.fault.Fault.{Fault}
@@ -33,7 +34,7 @@ use Rattle.prefsql_session.specs.declared.fault.Fault.TheVariants.{Table, Script
 use Rattle.prefsql_session.specs.declared.fault.Stop.{Stop}
 use Rattle.prefsql_session.specs.declared.fault.Stop.TheVariants.{Usage, Refused, ReadFault, ShelfFault, Memory}
 use Rattle.prefsql_session.specs.declared.work.Work.{Work}
-use Rattle.prefsql_session.specs.declared.work.Work.TheVariants.{Statements}
+use Rattle.prefsql_session.specs.declared.work.Work.TheVariants.{Bench, Statements}
 
 -- ---- the script
 
@@ -199,6 +200,13 @@ module _ (files : Option Files) (script : Option (List ℕ)) where
 
   pub missing_job : (asked : Option Command) (command : Command) → asked ≡ Some command → job_stage files command ≡ missing → opens asked ≡ missing
   missing_job asked command is job = ap opens is ∙ job
+
+-- ---- the bench
+
+pub bench_prepared : (files : Option Files) (script : Option (List ℕ)) (asked : Option Command) (count : ℕ) → asked ≡ Some (command.Bench count)
+    → AtEnd (GoesOn (opens files script asked) script) (λ end. MayGive end (Bench count))
+bench_prepared files script asked count is =
+    subst (λ (a : Option Command). AtEnd (GoesOn (opens files script a) script) (λ end. MayGive end (Bench count))) (sym is) (ready (Bench count), refl, refl)
 
 -- ---- a command that is a task on a script
 

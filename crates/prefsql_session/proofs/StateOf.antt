@@ -1,16 +1,15 @@
 -- Where `clap`'s walk over the words of a command line stands after each word.
-use Rattle.std.proofs.Common.{◌≡◌, ◌∙◌, ℕ, List, [], ◌∷◌, ◌++◌, Bool, true, false, not, ◌&&◌, ◌||◌, cond, if◌then◌else◌, Option, Some, None, refl, sym, ap, ap₂, codes, subst}
-use Rattle.std.specs.Str.{bytes_eq}
+use Rattle.std.proofs.Common.{◌≡◌, ◌∙◌, ℕ, List, [], ◌∷◌, ◌++◌, Bool, true, false, ◌&&◌, ◌||◌, cond, if◌then◌else◌, Some, None, refl, sym, ap, ap₂, codes, subst}
 use Rattle.std.specs.List.{fold}
 use Rattle.std.proofs.lemmas.Slice.Eq.{bytes_eq-Decides}
 use Rattle.clap.specs.Lexer.{long_of}
-use Rattle.clap.specs.Simple.{Shape, built, with_index, filled}
+use Rattle.clap.specs.Simple.{with_index, filled}
 use Rattle.clap.specs.Takes.{settle_passes}
-use Rattle.clap.specs.Walk.{Held, option, subcommand_or_other, long_or_other, Row, Rule, Step, Text, Waiting, Walk, after_step, arg_by_index, idle, is_pending, next, positional, positional_held, pushed, reacted, settled, settled_rows, to_positional, trailing, used, value, walked, walked_from, word_met}
+use Rattle.clap.specs.Walk.{Held, option, subcommand_or_other, long_or_other, Row, Rule, Step, Text, Waiting, Walk, after_step, arg_by_index, idle, is_pending, next, positional, pushed, reacted, settled, settled_rows, to_positional, trailing, used, value, walked, walked_from, word_met}
 use Rattle.clap.specs.declared.builder.value_parser.Reading.TheVariants.{AsWritten}
 use Rattle.clap.specs.declared.parser.matches.ValueSource.TheVariants.{CommandLine}
 use Rattle.prefsql_session.specs.CommandLine.{is_end, is_stats}
-use Rattle.prefsql_session.specs.WordsApp.{words_rule, words_app}
+use Rattle.prefsql_session.specs.WordsApp.{words_rule}
 use Rattle.prefsql_session.proofs.WalkOf.{IsFree, none_met, word_is_value, rules, stats_built}
 
 abbrev pub words_built : Rule

@@ -1,22 +1,21 @@
 -- When `clap` takes the words of a command line, and what it refuses.
-use Rattle.std.proofs.Common.{◌≡◌, ◌∙◌, ◌+◌, ◌<◌, ◌≤◌, ℕ, List, [], ◌∷◌, ◌++◌, Bool, true, false, not, ◌&&◌, ◌||◌, cond, if◌then◌else◌, Option, Some, None, refl, sym, ap, ap₂, codes, arith, true≢false, is_some}
-use Rattle.std.specs.List.{fold, list_all}
+use Rattle.std.proofs.Common.{◌≡◌, ◌∙◌, ◌+◌, ◌≤◌, ℕ, List, [], ◌∷◌, Bool, true, false, not, ◌&&◌, ◌||◌, if◌then◌else◌, Option, Some, None, refl, sym, ap, ap₂, codes, arith, true≢false, is_some}
+use Rattle.std.specs.List.{list_all}
 use Rattle.std.specs.Prelude.{◌==◌}
-use Rattle.std.specs.Str.{bytes_eq}
 use Rattle.std.proofs.lemmas.Slice.Eq.{bytes_eq-Decides}
 use Rattle.std.specs.Option.{option_map_or}
 use Rattle.clap.proofs.WalkLemmas.{both}
 use Rattle.clap.specs.Lexer.{long_of, short_of}
-use Rattle.clap.specs.Faults.{react_fault, use_fault, fault_of, turn_fault, walk_fault, word_fault, step_fault}
+use Rattle.clap.specs.Faults.{react_fault, use_fault, turn_fault, walk_fault, word_fault, step_fault}
 use Rattle.clap.specs.Kinds.{Kinds, or_else}
 use Rattle.clap.specs.Simple.{Shape, built}
 use Rattle.clap.specs.Takes.{bundle_passes, other_passes, react_passes, step_passes, word_passes, flag_word_passes, turn_passes, use_passes, walk_passes}
 use Rattle.clap.specs.Walk.{Held, is_pending, idle, option, positional, Step, Text, Waiting, Walk, walked, word_met, value}
 use Rattle.prefsql_session.specs.CommandLine.{is_plain, is_end, is_stats, operands, stats_among}
 use Rattle.prefsql_session.specs.WordsApp.{words_app}
-use Rattle.prefsql_session.proofs.WalkOf.{IsFree, none_met, rules, stats_built, word_is_value}
+use Rattle.prefsql_session.proofs.WalkOf.{none_met, rules, stats_built, word_is_value}
 use Rattle.prefsql_session.proofs.StateOf.{words_built, At, Layout, bare, operands_alone, stats_alone, operands_first, stats_first, end_step, operand_step, rows_in, stats_step, with_operand, with_stats}
-use Rattle.prefsql_session.proofs.Follow.{among-end, among-operand, among-stats, operands-end, operands-operand, operands-stats, stats-operand, stats-stats, stats_in, stats_in-most}
+use Rattle.prefsql_session.proofs.Follow.{among-end, among-operand, among-stats, operands-operand, operands-stats, stats-operand, stats-stats, stats_in, stats_in-most}
 
 abbrev pub top : Shape
 top = (built words_app).top

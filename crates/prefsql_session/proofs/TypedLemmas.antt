@@ -1,5 +1,5 @@
 -- Typed statements have answers.
-use Rattle.std.proofs.Common.{List, [], ◌∷◌, All}
+use Rattle.std.proofs.Common.{List, [], ◌∷◌}
 use Rattle.std.proofs.lemmas.List.Elements.{All-nil, All-cons}
 use Rattle.prefsql_tables.specs.Table.{Tables}
 use Rattle.query_meaning.specs.declared.block.Block.{Block}

@@ -2,13 +2,16 @@
 use Rattle.std.specs.Prelude.{ℕ, List, [], ◌∷◌, ◌++◌, length, filter, Bool, true, false, not, ◌&&◌, ◌||◌, if◌then◌else◌, Option, None, Some, codes, ◌==◌, nat_lt, nat_le, count_by}
 use Rattle.std.specs.List.{before_first, after_first, list_all}
 use Rattle.std.specs.Option.{option_map, option_and_then}
-use Rattle.std.specs.Char.{is_ascii_alphabetic, is_ascii_alphanumeric}
+use Rattle.std.specs.Char.{is_ascii_alphabetic, is_ascii_alphanumeric, is_ascii_digit}
 use Rattle.std.specs.Str.{bytes_eq, str_to_ascii_uppercase}
+use Rattle.std.specs.Str.Parse.{digits_value}
 use Rattle.prefsql_session.specs.declared.command.Command.{Command}
-use Rattle.prefsql_session.specs.declared.command.Command.TheVariants.{OnScript}
+use Rattle.prefsql_session.specs.declared.command.Command.TheVariants.{Bench, OnScript}
 use Rattle.prefsql_session.specs.declared.command.TableWord.{TableWord}
 use Rattle.prefsql_session.specs.declared.command.Task.{Task}
-use Rattle.prefsql_session.specs.declared.command.Task.TheVariants.{Answer, Explain, Rewrite}
+use Rattle.prefsql_session.specs.declared.command.Task.TheVariants.{Answer, Show}
+use Rattle.prefsql_session.specs.declared.command.Shown.{Shown}
+use Rattle.prefsql_session.specs.declared.command.Shown.TheVariants.{Plan, Query}
 
 -- what each item gives, where each gives something
 abbrev pub each : {X Y : Type 0} → (X → Option Y) → List X → Option (List Y)
@@ -33,22 +36,47 @@ table_word word =
 abbrev pub table_words : List (List ℕ) → Option (List TableWord)
 table_words words = if nat_le (length words) 8 then each table_word words else None
 
--- what is done with a script, by the name of the command
-abbrev pub task_of : List ℕ → Option Task
-task_of name =
-    if bytes_eq name (codes "answer") then Some Answer
-    else if bytes_eq name (codes "explain") then Some Explain
-    else if bytes_eq name (codes "rewrite") then Some Rewrite
+-- what is shown of each statement, by the name of the command
+abbrev pub shown_of : List ℕ → Option Shown
+shown_of name =
+    if bytes_eq name (codes "explain") then Some Plan
+    else if bytes_eq name (codes "rewrite") then Some Query
     else None
 
--- the same; `counts` says that `--stats` stands there, which no command takes yet
+-- what is written of each statement, by the name of the command and by whether `--stats` stands
+-- there, which `answer` alone takes
 abbrev pub task_named : List ℕ → Bool → Option Task
-task_named name counts = if counts then None else task_of name
+task_named name counts =
+    if bytes_eq name (codes "answer") then Some (Answer counts)
+    else if counts then None
+    else option_map Show (shown_of name)
+
+-- one to six digits
+abbrev pub is_number : List ℕ → Bool
+is_number word = list_all is_ascii_digit word && nat_le 1 (length word) && nat_le (length word) 6
+
+-- the number that they write, where it is from 1 to 100,000
+abbrev pub row_count : List ℕ → Option ℕ
+row_count word =
+    let count = digits_value 10 word in
+    if is_number word && nat_le 1 count && nat_le count 100000 then Some count else None
+
+-- the one word after `bench`
+abbrev pub bench_count : List (List ℕ) → Option ℕ
+bench_count (word ∷ []) = row_count word
+bench_count words = None
+
+-- a command on a script, with these further words
+abbrev pub script_command : List ℕ → Bool → List (List ℕ) → Option Command
+script_command name counts words =
+    option_and_then (λ task. option_map (OnScript task) (table_words words)) (task_named name counts)
 
 -- a command of this name, with `--stats` or without, and with these further words
 abbrev pub command_of : List ℕ → Bool → List (List ℕ) → Option Command
 command_of name counts words =
-    option_and_then (λ task. option_map (OnScript task) (table_words words)) (task_named name counts)
+    if bytes_eq name (codes "bench")
+    then if counts then None else option_map Bench (bench_count words)
+    else script_command name counts words
 
 -- the word begins with no hyphen
 abbrev pub is_plain : List ℕ → Bool

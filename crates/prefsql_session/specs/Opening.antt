@@ -11,7 +11,7 @@ use Rattle.table_csv.specs.declared.fault.TableSpot.{TableSpot}
 use Rattle.prefsql_session.specs.CommandLine.{accepted}
 use Rattle.prefsql_session.specs.Stage.{Stage, untold, unaccepted, missing, faulty, ready, and_then, barred_if, ready_or}
 use Rattle.prefsql_session.specs.declared.command.Command.{Command}
-use Rattle.prefsql_session.specs.declared.command.Command.TheVariants.{OnScript}
+use Rattle.prefsql_session.specs.declared.command.Command.TheVariants.{Bench, OnScript}
 use Rattle.prefsql_session.specs.declared.command.TableWord.{TableWord}
 use Rattle.prefsql_session.specs.declared.command.Task.{Task}
 use Rattle.prefsql_session.specs.declared.fault.Fault.{Fault}
@@ -20,6 +20,8 @@ use Rattle.prefsql_session.specs.declared.fault.Fault.TheVariants.{Table}
 -- what a run has to do once its tables are there
 pub data Job : Type 0 where
   over : Task → Tables → Job
+  -- the bench
+  bench_of : ℕ → Job
 
 -- ---- one table
 
@@ -72,6 +74,7 @@ tables_stage files words = barred_if (has_repeated [] words) (tables_after files
 
 abbrev pub job_stage : Option Files → Command → Stage Job
 job_stage files (OnScript task words) = and_then (tables_stage files words) (λ tables. ready (over task tables))
+job_stage files (Bench count) = ready (bench_of count)
 
 -- the words are judged, and then the tables come in
 abbrev pub opening : List (List ℕ) → Option Files → Stage Job

@@ -1,23 +1,34 @@
 -- What the parts of a run answer. All of it is this project's own.
-use Rattle.std.specs.Prelude.{◌≡◌, ◌⊎◌, ◌<◌, ◌≤◌, ℕ, List, length, ⊤, Option, IfSome, Result, Ok, Err, Vec}
-use Rattle.std.specs.Io.KnownBytes.{Keeps}
+use Rattle.std.specs.Prelude.{◌≡◌, ◌⊎◌, ◌<◌, ◌≤◌, ◌+◌, ◌*◌, ℕ, Bool, List, length, take, ⊤, Option, None, Some, IfSome, Result, Ok, Err, Vec}
+use Rattle.std.specs.Io.KnownBytes.{Appends, Keeps}
+use Rattle.std.specs.List.{flat_map}
+use Rattle.prefsql_io.specs.Counts.{Rose}
+use Rattle.prefsql_io.specs.Streams.{AppendsLess}
 use Rattle.std.specs.declared.alloc.Global.{Global}
 use Rattle.prefsql_tables.specs.Table.{Tables}
 use Rattle.query_meaning.specs.declared.block.Block.{Block}
+use Rattle.query_meaning.specs.Answers.{answer_of}
+use Rattle.table_csv.specs.AnswerText.{text_of_answer}
+use Rattle.prefsql_session.specs.Counts.{AreTestCounts, IsTestCount, Takes, last_count, told_line, told_lines}
 use Rattle.prefsql_session.specs.Course.{GoesOn}
 use Rattle.prefsql_session.specs.Opening.{Job, over}
-use Rattle.prefsql_session.specs.Run.{AsksForTables, AtEnd, FallsShort, GetsAll, GetsFront, MayAskScript}
+use Rattle.prefsql_session.specs.Run.{AsksForTables, AtEnd, FallsShort, Finishes, GetsAll, GetsFront, IsDueSoFar, MayAskScript}
 use Rattle.prefsql_session.specs.ScriptEnd.{AsksFor, HasQueryFault}
 use Rattle.prefsql_session.specs.Stage.{Stage, ready, unaccepted, MayGive, MayHaveFault}
 use Rattle.prefsql_session.specs.Texts.{text_of}
 use Rattle.prefsql_session.specs.declared.command.Command.{Command}
+use Rattle.prefsql_session.specs.declared.command.Command.TheVariants.{OnScript}
+use Rattle.prefsql_session.specs.declared.command.Command.TheVariants as command
 use Rattle.prefsql_session.specs.declared.command.Task.{Task}
 use Rattle.prefsql_session.specs.declared.fault.Fault.TheVariants.{Script}
 use Rattle.prefsql_session.specs.declared.fault.Stop.{Stop}
 use Rattle.prefsql_session.specs.declared.fault.Stop.TheVariants as stop
+use Rattle.prefsql_session.specs.declared.halt.Halt.{Halt}
+use Rattle.prefsql_session.specs.declared.halt.Halt.TheVariants as halt
 use Rattle.prefsql_session.specs.declared.session.Status.{Status}
 use Rattle.prefsql_session.specs.declared.session.Status.TheVariants.{Done, WriteFault, Memory}
 use Rattle.prefsql_session.specs.declared.work.Work.{Work}
+use Rattle.prefsql_session.specs.declared.work.Work.TheVariants.{Bench, Statements}
 
 -- the work up to the writing
 module _ (Course : Stage Work → Type 0) (opens : Stage Job) (asked : Option Command) where
@@ -70,10 +81,68 @@ module _ (Wanted : List ℕ → Type 0) (done : Status) (before now : ℕ) (old 
   abbrev pub WritesLine : Type 0
   WritesLine = ((result ≡ done) × GetsAll Wanted old new) ⊎ (((result ≡ WriteFault) × FallsShort Wanted before now old new) ⊎ ((result ≡ Memory) × Keeps old new))
 
--- what a body that writes the texts of this work may answer
-module _ (work : Work) (before now : ℕ) (old new : Option (List ℕ)) where
+-- what a body that writes the texts of this work to `out`, and what is due beside them to `err`, may
+-- answer, where so many steps were made before and after
+module _ (work : Work) (before now : ℕ) (old new : Option (List ℕ))
+    (err_before err_now : ℕ) (err_old err_new : Option (List ℕ)) (start end : ℕ) where
   abbrev pub WritesWork : Status → Type 0
-  WritesWork Done = GetsAll (λ text. text ≡ text_of work) old new
-  WritesWork WriteFault = FallsShort (λ text. text ≡ text_of work) before now old new
-  WritesWork Memory = GetsFront (λ text. text ≡ text_of work) old new
+  WritesWork Done = GetsAll (λ text. text ≡ text_of work) old new × Finishes work err_old err_new start end
+  WritesWork WriteFault =
+      (FallsShort (λ text. text ≡ text_of work) before now old new × GetsFront (IsDueSoFar work) err_old err_new)
+      ⊎ (GetsFront (λ text. text ≡ text_of work) old new × FallsShort (IsDueSoFar work) err_before err_now err_old err_new)
+  WritesWork Memory = GetsFront (λ text. text ≡ text_of work) old new × GetsFront (IsDueSoFar work) err_old err_new
   WritesWork status = ⊥
+
+-- what a body that answers one statement may answer
+module _ (tells : Bool) (tables : Tables) (block : Block) (before now : ℕ) (old new : Option (List ℕ))
+    (err_before err_now : ℕ) (err_old err_new : Option (List ℕ)) (start end : ℕ) where
+  abbrev pub WritesAnswer : Result ℕ Halt → Type 0
+  WritesAnswer (Ok tests) =
+      Appends old new (text_of_answer (answer_of tables block)) × Appends err_old err_new (told_line tells tests)
+      × IsTestCount tables block tests × (start + tests ≤ end) × (tests < last_count → end ≤ start + 8 * tests)
+  WritesAnswer (Err halt.WriteFault) =
+      (Rose before now × AppendsLess old new (text_of_answer (answer_of tables block)) × Keeps err_old err_new)
+      ⊎ (Appends old new (text_of_answer (answer_of tables block))
+      × ((tests : ℕ) × IsTestCount tables block tests × Rose err_before err_now × AppendsLess err_old err_new (told_line tells tests)))
+  WritesAnswer (Err halt.Memory) = Keeps old new × Keeps err_old err_new
+
+-- and one that answers all of them
+module _ (tells : Bool) (tables : Tables) (blocks : List Block) (before now : ℕ) (old new : Option (List ℕ))
+    (err_before err_now : ℕ) (err_old err_new : Option (List ℕ)) (start end : ℕ) where
+  abbrev pub AnswersOf : List ℕ → Type 0
+  AnswersOf text = text ≡ flat_map (λ block. text_of_answer (answer_of tables block)) blocks
+
+  abbrev pub TellsFirst : List ℕ → Type 0
+  TellsFirst lines =
+      (n : ℕ) × ((tests : List ℕ) × AreTestCounts tables (take n blocks) tests × (lines ≡ told_lines tells tests))
+
+  abbrev pub WritesAnswers : Result ⊤ Halt → Type 0
+  WritesAnswers (Ok done) =
+      GetsAll AnswersOf old new
+      × ((tests : List ℕ) × Takes tables blocks tests start end × Appends err_old err_new (told_lines tells tests))
+  WritesAnswers (Err halt.WriteFault) =
+      (FallsShort AnswersOf before now old new × GetsFront TellsFirst err_old err_new)
+      ⊎ (GetsFront AnswersOf old new × FallsShort TellsFirst err_before err_now err_old err_new)
+  WritesAnswers (Err halt.Memory) = GetsFront AnswersOf old new × GetsFront TellsFirst err_old err_new
+
+-- what a body that writes what a task asks of statements may answer
+module _ (task : Task) (tables : Tables) (blocks : List Block) (before now : ℕ) (old new : Option (List ℕ))
+    (err_before err_now : ℕ) (err_old err_new : Option (List ℕ)) (start end : ℕ) where
+  abbrev pub WritesTask : Result ⊤ Halt → Type 0
+  WritesTask (Ok done) =
+      WritesWork (Statements task tables blocks) before now old new err_before err_now err_old err_new start end Done
+  WritesTask (Err halt.WriteFault) =
+      WritesWork (Statements task tables blocks) before now old new err_before err_now err_old err_new start end WriteFault
+  WritesTask (Err halt.Memory) =
+      WritesWork (Statements task tables blocks) before now old new err_before err_now err_old err_new start end Memory
+
+-- the work is what the task asks for
+abbrev pub IsOfTask : Task → Work → Type 0
+IsOfTask task (Statements other tables blocks) = other ≡ task
+IsOfTask task (Bench count) = ⊥
+
+-- the work is what the words ask for
+abbrev pub IsAskedFor : Option Command → Work → Type 0
+IsAskedFor (Some (OnScript task words)) work = IsOfTask task work
+IsAskedFor (Some (command.Bench count)) work = work ≡ Bench count
+IsAskedFor None work = ⊥

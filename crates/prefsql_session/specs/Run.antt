@@ -1,9 +1,12 @@
 -- What a run writes, and why it ends as it does, by its course. All of it is this project's own. A course is the set of
 -- the ends that a run may come to, which is one end.
-use Rattle.std.specs.Prelude.{◌≡◌, ◌⊎◌, ℕ, List, [], ◌∷◌, take, ⊤, Option, Some}
+use Rattle.std.specs.Prelude.{◌≡◌, ◌⊎◌, ℕ, true, List, [], ◌∷◌, take, ⊤, Option, Some}
 use Rattle.std.specs.Io.KnownBytes.{Appends, Keeps}
+use Rattle.prefsql_bench.specs.BenchTable.{bench_set}
+use Rattle.prefsql_bench.specs.Statements.{bench_blocks}
 use Rattle.prefsql_io.specs.Counts.{Rose}
 use Rattle.prefsql_io.specs.Streams.{AppendsLess}
+use Rattle.prefsql_session.specs.Counts.{AreFirstLinesOf, AreLinesOf, Takes, told_lines}
 use Rattle.prefsql_session.specs.Faults.{fault_line, usage_line}
 use Rattle.prefsql_session.specs.Opening.{Job, over}
 use Rattle.prefsql_session.specs.Stage.{Stage, untold, barred, unaccepted, missing, faulty, ready, MayHaveFault}
@@ -13,7 +16,9 @@ use Rattle.prefsql_session.specs.declared.command.Command.TheVariants.{OnScript}
 use Rattle.prefsql_session.specs.declared.fault.Fault.{Fault}
 use Rattle.prefsql_session.specs.declared.session.Status.{Status}
 use Rattle.prefsql_session.specs.declared.session.Status.TheVariants.{Done, Refused, Usage, ReadFault, WriteFault, Memory, ShelfFault}
+use Rattle.prefsql_session.specs.declared.command.Task.TheVariants.{Answer, Show}
 use Rattle.prefsql_session.specs.declared.work.Work.{Work}
+use Rattle.prefsql_session.specs.declared.work.Work.TheVariants.{Bench, Statements}
 
 -- ---- one end of a run
 
@@ -29,14 +34,44 @@ IsTextAt untold text = ⊤
 IsTextAt (ready work) text = text ≡ text_of work
 IsTextAt end text = text ≡ []
 
--- all that is due on `err`: the usage line, or the line of the first fault, else nothing
+-- what is due on `err` beside the texts of some work: the lines for its counts, where they are told
+abbrev pub IsDueWith : Work → List ℕ → Type 0
+IsDueWith (Statements (Answer true) tables blocks) lines = AreLinesOf tables blocks lines
+IsDueWith work lines = lines ≡ []
+
+-- and what is due after some of the texts, from the first on
+abbrev pub IsDueSoFar : Work → List ℕ → Type 0
+IsDueSoFar (Statements (Answer true) tables blocks) lines = AreFirstLinesOf tables blocks lines
+IsDueSoFar work lines = lines ≡ []
+
+-- all that is due on `err`: the usage line, or the line of the first fault, or the lines for counts
 abbrev pub IsDueAt : Stage Work → List ℕ → Type 0
 IsDueAt untold line = ⊤
 IsDueAt barred line = ⊤
 IsDueAt unaccepted line = line ≡ usage_line
 IsDueAt missing line = line ≡ []
 IsDueAt (faulty fault) line = line ≡ fault_line fault
-IsDueAt (ready work) line = line ≡ []
+IsDueAt (ready work) lines = IsDueWith work lines
+
+-- the same, where less than the whole text may be written
+abbrev pub IsDueSoFarAt : Stage Work → List ℕ → Type 0
+IsDueSoFarAt (ready work) lines = IsDueSoFar work lines
+IsDueSoFarAt end lines = IsDueAt end lines
+
+-- the texts of the work were written, so much was appended to `err`, and so many steps were made:
+-- an answer is counted, and its count is told where it is to be
+abbrev pub Finishes : Work → Option (List ℕ) → Option (List ℕ) → ℕ → ℕ → Type 0
+Finishes (Statements (Answer tells) tables blocks) old new before after =
+    (tests : List ℕ) × Takes tables blocks tests before after × Appends old new (told_lines tells tests)
+Finishes (Statements (Show shown) tables blocks) old new before after = Keeps old new
+Finishes (Bench count) old new before after =
+    (tests : List ℕ) × Takes (bench_set count) bench_blocks tests before after × Keeps old new
+
+-- so it is at the end of a run, where that is told
+abbrev pub FinishesAt : Stage Work → Option (List ℕ) → Option (List ℕ) → ℕ → ℕ → Type 0
+FinishesAt untold old new before after = ⊤
+FinishesAt (ready work) old new before after = Finishes work old new before after
+FinishesAt end old new before after = ⊥
 
 -- it is told, and has a defined text
 abbrev pub IsGood : Stage Work → Type 0
@@ -56,6 +91,16 @@ abbrev pub AsksForTables : Option Command → Type 0
 AsksForTables (Some (OnScript task (word ∷ words))) = ⊤
 AsksForTables other = ⊥
 
+-- one thing where the words ask for counts, else another
+abbrev pub IfCounts : Option Command → Type 0 → Type 0 → Type 0
+IfCounts (Some (OnScript (Answer true) words)) Told Untold = Told
+IfCounts asked Told Untold = Untold
+
+-- the words ask for a script
+abbrev pub AsksForScript : Option Command → Type 0
+AsksForScript (Some (OnScript task words)) = ⊤
+AsksForScript asked = ⊥
+
 -- ---- the clauses, over the course
 
 module _ (Course : Stage Work → Type 0) where
@@ -68,6 +113,9 @@ module _ (Course : Stage Work → Type 0) where
 
   abbrev pub IsDueOf : List ℕ → Type 0
   IsDueOf line = AtEnd (λ end. IsDueAt end line)
+
+  abbrev pub IsDueSoFarOf : List ℕ → Type 0
+  IsDueSoFarOf lines = AtEnd (λ end. IsDueSoFarAt end lines)
 
   -- the status may stand at the end of this course, which opens so, and for which this was asked
   abbrev pub EndsAt : Stage Job → Option Command → Status → Type 0
@@ -99,9 +147,13 @@ module _ (Course : Stage Work → Type 0) where
   WritesText Memory old new = GetsFront (IsTextOf Course) old new
   WritesText status old new = Keeps old new
 
-  -- what stands on `err`: after a refusal all that is due, and a front of it where it could not be written
-  abbrev pub WritesDue : Status → Option (List ℕ) → Option (List ℕ) → Type 0
-  WritesDue Refused old new = GetsAll (IsDueOf Course) old new
-  WritesDue Usage old new = GetsAll (IsDueOf Course) old new
-  WritesDue WriteFault old new = GetsFront (IsDueOf Course) old new
-  WritesDue status old new = Keeps old new
+  -- What stands on `err`: after a refusal all that is due, and a front of it where it could not be
+  -- written. Beside the texts nothing stands there but the lines for counts, where they are asked for.
+  abbrev pub WritesDue : Option Command → Status → Option (List ℕ) → Option (List ℕ) → Type 0
+  WritesDue asked Refused old new = GetsAll (IsDueOf Course) old new
+  WritesDue asked Usage old new = GetsAll (IsDueOf Course) old new
+  WritesDue asked WriteFault old new = GetsFront (IsDueSoFarOf Course) old new
+  WritesDue asked Done old new = IfCounts asked (GetsAll (IsDueOf Course) old new) (Keeps old new)
+  WritesDue asked Memory old new =
+      IfCounts asked (GetsFront (IsDueSoFarOf Course) old new) (Keeps old new)
+  WritesDue asked status old new = Keeps old new

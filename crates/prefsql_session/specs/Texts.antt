@@ -1,8 +1,9 @@
 -- What a run is to write at its good end. All of it is this project's own.
-use Rattle.std.specs.Prelude.{ℕ, List, All}
+use Rattle.std.specs.Prelude.{ℕ, ◌≤◌, List, All}
 use Rattle.std.specs.List.{flat_map}
 use Rattle.prefsql_tables.specs.Table.{Tables}
 use Rattle.plan_algebra.specs.PlanText.{plan_text}
+use Rattle.prefsql_bench.specs.Summary.{bench_summary}
 use Rattle.plan_stages.specs.Stages.{block_plan}
 use Rattle.query_meaning.specs.Answers.{answer_of}
 use Rattle.query_meaning.specs.BlockFits.{FitsTables}
@@ -12,19 +13,26 @@ use Rattle.rewritten_query.specs.Rewriting.{rewritten}
 use Rattle.sql_text.specs.Text as sql
 use Rattle.table_csv.specs.AnswerText.{text_of_answer}
 use Rattle.prefsql_session.specs.declared.command.Task.{Task}
-use Rattle.prefsql_session.specs.declared.command.Task.TheVariants.{Answer, Explain, Rewrite}
+use Rattle.prefsql_session.specs.declared.command.Task.TheVariants.{Answer, Show}
+use Rattle.prefsql_session.specs.declared.command.Shown.{Shown}
+use Rattle.prefsql_session.specs.declared.command.Shown.TheVariants.{Plan, Query}
 use Rattle.prefsql_session.specs.declared.work.Work.{Work}
-use Rattle.prefsql_session.specs.declared.work.Work.TheVariants.{Statements}
+use Rattle.prefsql_session.specs.declared.work.Work.TheVariants.{Bench, Statements}
 
--- what the task asks of a statement as text: its answer, its plan, or its SQL query
+-- what is shown of a statement: its plan, or its SQL query
+abbrev pub shown_text : Shown → Tables → Block → List ℕ
+shown_text Plan tables block = plan_text block (block_plan block)
+shown_text Query tables block = sql.text_of (rewritten block)
+
+-- what the task asks of a statement as text
 abbrev pub statement_text : Task → Tables → Block → List ℕ
-statement_text Answer tables block = text_of_answer (answer_of tables block)
-statement_text Explain tables block = plan_text block (block_plan block)
-statement_text Rewrite tables block = sql.text_of (rewritten block)
+statement_text (Answer tells) tables block = text_of_answer (answer_of tables block)
+statement_text (Show shown) tables block = shown_text shown tables block
 
 -- the texts of the statements, one after the other
 abbrev pub text_of : Work → List ℕ
 text_of (Statements task tables blocks) = flat_map (statement_text task tables) blocks
+text_of (Bench count) = bench_summary count
 
 -- a query that has an answer over these tables, a plan, and an SQL query that means the same
 pub record IsAnswerable (tables : Tables) (block : Block) : Type 0 where
@@ -34,6 +42,12 @@ pub record IsAnswerable (tables : Tables) (block : Block) : Type 0 where
 abbrev pub AreAnswerable : Tables → List Block → Type 0
 AreAnswerable tables = All (IsAnswerable tables)
 
+-- how many rows the table of the bench may have
+pub record IsBenchCount (count : ℕ) : Type 0 where
+  pub some : 1 ≤ count
+  pub few : count ≤ 100000
+
 -- each statement has its text
 abbrev pub HasTexts : Work → Type 0
 HasTexts (Statements task tables blocks) = AreAnswerable tables blocks
+HasTexts (Bench count) = IsBenchCount count

@@ -7,15 +7,22 @@ pub(crate) struct TableWord {
     pub(crate) path: Text,
 }
 
-/// What is done with each statement of a preference script.
+/// What is written of each statement of a preference script.
 #[derive(Clone, Copy, Debug, PartialEq, Eq)]
 pub(crate) enum Task {
-    /// It is answered.
-    Answer,
-    /// Its plan is shown.
-    Explain,
-    /// It is written in SQL-92.
-    Rewrite,
+    /// Its answer. The flag says whether the tests that the answer took are told.
+    Answer(bool),
+    /// What can be shown of it.
+    Show(Shown),
+}
+
+/// What can be shown of a statement.
+#[derive(Clone, Copy, Debug, PartialEq, Eq)]
+pub(crate) enum Shown {
+    /// Its plan.
+    Plan,
+    /// Its query in SQL-92.
+    Query,
 }
 
 /// What the words of a command line ask for.
@@ -23,4 +30,6 @@ pub(crate) enum Task {
 pub(crate) enum Command {
     /// This is done with a script, over these tables.
     OnScript(Task, List<TableWord>),
+    /// The bench, over a table of so many rows, from 1 to 100,000.
+    Bench(u32),
 }

@@ -1,39 +1,111 @@
-ghost use Rattle.std.specs.Prelude.{◌≡◌, IfOk, MatchOption, [], map, true, ◌∷◌, ℕ, List, Bool};
+ghost use Rattle.std.specs.Prelude.{◌≡◌, Some, IfOk, MatchOption, [], map, true, ◌∷◌, ℕ, List, Bool};
+ghost use Rattle.std.specs.Char.{is_ascii_digit};
+ghost use Rattle.std.specs.List.{list_all};
+ghost use Rattle.std.specs.Str.Parse.{digits_value};
 ghost use Rattle.clap.specs.Faults.{fault_of};
 ghost use Rattle.clap.specs.Matches.{found_of};
 ghost use Rattle.clap.specs.Simple.{matches_of};
 ghost use Rattle.clap.specs.Takes.{takes};
 ghost use Rattle.clap.specs.Walk.{rows_of};
-ghost use Rattle.prefsql_session.specs.CommandLine.{begins_plain, is_plain, accepted, command_of, task_named, task_of};
+ghost use Rattle.prefsql_session.specs.CommandLine.{accepted, begins_plain, bench_count, command_of, is_number, is_plain, row_count, script_command, shown_of, task_named};
 ghost use Rattle.prefsql_session.specs.WordsApp.{Reads, words_app};
 
 use crate::reader::words_command;
 use crate::table_words::table_words;
-use crate::{Command, Task};
+use crate::{Command, Shown, Task};
 use clap::ArgMatches;
 use clap::error::ErrorKind;
 use prefsql_values::{Memory, Text};
 use std::alloc::Global;
 
-// What is done with a script, by the name of the command.
-fn task_of(name: &str) -> Option<Task>
-    ensures { result ≡ task_of name.now }
+// What is shown of each statement, by the name of the command.
+fn shown_of(name: &str) -> Option<Shown>
+    ensures { result ≡ shown_of name.now }
 {
     match name {
-        "answer" => Some(Task::Answer),
-        "explain" => Some(Task::Explain),
-        "rewrite" => Some(Task::Rewrite),
+        "explain" => Some(Shown::Plan),
+        "rewrite" => Some(Shown::Query),
         _ => None,
     }
 }
 
-// The same; `counts` says that `--stats` stands there, which no command takes yet.
+// What is written of each statement, by the name of the command and by whether `--stats` stands
+// there.
 fn task_named(name: &str, counts: bool) -> Option<Task>
     ensures { result ≡ task_named name.now counts }
 {
-    if counts { None } else { task_of(name) }
+    if name == "answer" {
+        return Some(Task::Answer(counts));
+    }
+    if counts {
+        return None;
+    }
+    shown_of(name).map(Task::Show)
 }
 
+fn are_digits(bytes: &[u8]) -> bool
+    ensures { result ≡ list_all is_ascii_digit bytes.now }
+{
+    bytes.iter().all(|byte| byte.is_ascii_digit())
+}
+
+// One to six digits.
+fn is_number(word: &str) -> bool
+    ensures { result ≡ is_number word.now }
+{
+    are_digits(word.as_bytes()) && !word.is_empty() && word.len() <= 6
+}
+
+// The number that they write.
+fn number(word: &str) -> Option<u32>
+    requires { is_number word.now ≡ true }
+    ensures { result ≡ Some (digits_value 10 word.now) }
+{
+    word.parse::<u32>().ok()
+}
+
+// The same, where it is from 1 to 100,000.
+fn row_count(word: &str) -> Option<u32>
+    ensures { result ≡ row_count word.now }
+{
+    if !is_number(word) {
+        return None;
+    }
+    let count = number(word)?;
+    if 1 <= count && count <= 100_000 {
+        Some(count)
+    } else {
+        None
+    }
+}
+
+// The one word after `bench`.
+fn bench_count(words: &[&str]) -> Option<u32>
+    ensures { result ≡ bench_count (map (λ word. word.now) words.now) }
+{
+    match words {
+        [word] => row_count(word),
+        _ => None,
+    }
+}
+
+// A command on a script.
+fn script_command(
+    alloc: Global,
+    name: &str,
+    counts: bool,
+    words: &[&str],
+) -> Result<Option<Command>, Memory>
+    ensures { IfOk result (λ command. command ≡ script_command name.now counts (map (λ word. word.now) words.now)) }
+{
+    let Some(task) = task_named(name, counts) else {
+        return Ok(None);
+    };
+    let tables = table_words(alloc, words)?;
+    Ok(tables.map(|tables| Command::OnScript(task, tables)))
+}
+
+// A command of this name, with `--stats` or without, and with these further words.
 fn command_of(
     alloc: Global,
     name: &str,
@@ -42,11 +114,13 @@ fn command_of(
 ) -> Result<Option<Command>, Memory>
     ensures { IfOk result (λ command. command ≡ command_of name.now counts (map (λ word. word.now) words.now)) }
 {
-    let Some(task) = task_named(name, counts) else {
+    if name != "bench" {
+        return script_command(alloc, name, counts, words);
+    }
+    if counts {
         return Ok(None);
-    };
-    let tables = table_words(alloc, words)?;
-    Ok(tables.map(|tables| Command::OnScript(task, tables)))
+    }
+    Ok(bench_count(words).map(Command::Bench))
 }
 
 // What `clap` reads of the words, where it takes them.

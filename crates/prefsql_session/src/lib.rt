@@ -1,10 +1,13 @@
 //! The top call: from the words, the files and the script to what is written.
 #![tactic(auto)]
 
+mod answering;
+mod benching;
 mod command;
 mod command_line;
 mod fault;
 mod fault_line;
+mod halt;
 mod prepare;
 mod reader;
 mod script;
@@ -14,7 +17,7 @@ mod tables;
 mod work;
 mod writing;
 
-use command::{Command, TableWord, Task};
+use command::{Command, Shown, TableWord, Task};
 use command_line::accepted;
 pub use session::{Status, run};
 

@@ -6,7 +6,8 @@ ghost use Rattle.prefsql_values.specs.Limits.{IsName};
 ghost use Rattle.prefsql_session.specs.CommandLine.{accepted};
 ghost use Rattle.prefsql_session.specs.Course.{Comes, GoesOn};
 ghost use Rattle.prefsql_session.specs.Opening.{job_stage, opening};
-ghost use Rattle.prefsql_session.specs.Parts.{Prepares};
+ghost use Rattle.prefsql_session.specs.Parts.{IsAskedFor, IsOfTask, Prepares};
+ghost use Rattle.prefsql_session.specs.Run.{AsksForScript};
 ghost use Rattle.prefsql_session.specs.Stage.{missing};
 ghost use Rattle.prefsql_session.specs.Texts.{HasTexts};
 ghost use Rattle.prefsql_session.specs.declared.command.Command.TheVariants.{OnScript};
@@ -33,6 +34,7 @@ fn prepare_script<S: Source, H: Shelf>(
     requires named { All (λ (word : TableWord). IsName word.name) words.now }
     ensures follows { Prepares (GoesOn (job_stage (H.files shelf.old) (OnScript task words.now)) (S.left script.old))
         (job_stage (H.files shelf.old) (OnScript task words.now)) (Some (OnScript task words.now)) result }
+    ensures asked { IfOk result (IsOfTask task) }
     ensures texts { IfOk result HasTexts }
     ensures read { HasCause (S.faults script.old) (S.faults script.new) (IsErrOf result Stop.ReadFault) }
     ensures load { HasCause (H.faults shelf.old) (H.faults shelf.new) (IsErrOf result Stop.ShelfFault) }
@@ -55,6 +57,7 @@ pub(crate) fn prepare<S: Source, H: Shelf>(
 ) -> Result<Work, Stop>
     ensures follows { Prepares (Comes words.now (H.files shelf.old) (S.left script.old))
         (opening words.now (H.files shelf.old)) (accepted words.now) result }
+    ensures asked { IfOk result (IsAskedFor (accepted words.now)) }
     ensures texts { IfOk result HasTexts }
     ensures read { HasCause (S.faults script.old) (S.faults script.new) (IsErrOf result Stop.ReadFault) }
     ensures load { HasCause (H.faults shelf.old) (H.faults shelf.new) (IsErrOf result Stop.ShelfFault) }
@@ -62,7 +65,8 @@ pub(crate) fn prepare<S: Source, H: Shelf>(
     ensures shelf_kept { (IsErrOf result Stop.ShelfFault → ⊥) → H.faults shelf.new ≡ H.faults shelf.old }
     ensures sure { IsTrue (H.sure shelf.old) → IsErrOf result Stop.ShelfFault
         → opening words.now (H.files shelf.old) ≡ missing }
-    ensures end { OnOk result (IsAtEnd (S.left script.new)) }
+    ensures end { OnOk result (AsksForScript (accepted words.now) → IsAtEnd (S.left script.new)) }
+    ensures unasked { (AsksForScript (accepted words.now) → ⊥) → S.left script.new ≡ S.left script.old }
 {
     let Some(command) = accepted(alloc, words)? else {
         return Err(Stop::Usage);
@@ -71,5 +75,6 @@ pub(crate) fn prepare<S: Source, H: Shelf>(
         Command::OnScript(task, words) => {
             prepare_script(alloc, *task, words.as_slice(), script, shelf)
         }
+        Command::Bench(count) => Ok(Work::Bench(*count)),
     }
 }

@@ -2,7 +2,7 @@
 ghost use Rattle.std.specs.Prelude.{◌≡◌, ◌<◌, ◌≤◌, IfOk, OnOk, IsErr, IsErrOf, length};
 ghost use Rattle.std.specs.Io.KnownBytes.{IsAtEnd};
 ghost use Rattle.prefsql_io.specs.Counts.{HasCause};
-ghost use Rattle.prefsql_session.specs.Parts.{Asks, Ends, Reads};
+ghost use Rattle.prefsql_session.specs.Parts.{Asks, Ends, IsOfTask, Reads};
 ghost use Rattle.prefsql_session.specs.ScriptEnd.{script_limit};
 ghost use Rattle.prefsql_session.specs.Texts.{AreAnswerable, HasTexts};
 
@@ -29,7 +29,7 @@ fn script_limit(task: Task) -> u32
     ensures { result ≡ script_limit task }
 {
     match task {
-        Task::Answer | Task::Explain | Task::Rewrite => 1_048_576,
+        Task::Answer(_) | Task::Show(_) => 1_048_576,
     }
 }
 
@@ -70,6 +70,7 @@ pub(crate) fn read_work<S: Source>(
     script: &mut S,
 ) -> Result<Work, Stop>
     ensures follows { Ends task tables (S.left script.old) result }
+    ensures asked { IfOk result (IsOfTask task) }
     ensures texts { IfOk result HasTexts }
     ensures read { HasCause (S.faults script.old) (S.faults script.new) (IsErrOf result Stop.ReadFault) }
     ensures kept { (IsErrOf result Stop.ReadFault → ⊥) → S.faults script.new ≡ S.faults script.old }

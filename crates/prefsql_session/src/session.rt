@@ -36,7 +36,7 @@ pub enum Status {
 }
 
 ghost use Rattle.prefsql_session.specs.Parts.{WritesLine};
-ghost use Rattle.prefsql_session.specs.Run.{AtEnd, EndsAt, FallsShort, IsDueOf, IsGood, IsTextOf, WritesDue, WritesText};
+ghost use Rattle.prefsql_session.specs.Run.{AsksForScript, AtEnd, EndsAt, FallsShort, FinishesAt, IsDueSoFarOf, IsGood, IsTextOf, WritesDue, WritesText};
 
 // Writes these bytes. Where they can't be written, that is how the run ends.
 fn put<O: Sink>(sink: &mut O, bytes: &[u8], status: Status) -> Status
@@ -71,9 +71,12 @@ fn refuse_words<E: Sink>(err: &mut E) -> Status
     put(err, USAGE.as_bytes(), Status::Usage)
 }
 
-/// Runs the program over these words, which are those after its name: `answer`, `explain` or `rewrite`, at most eight table
-/// words `NAME=PATH` and one `--`. What the words, the files and the script come to is the run's course, and what the run writes and how it ends follow
-/// from that, want of memory and the faults of the four outer objects. No step is counted yet.
+/// Runs the program over these words, which are those after its name: `answer`, `explain` or
+/// `rewrite`, at most eight table words `NAME=PATH`, one `--`, and after `answer` one `--stats`; or
+/// `bench`, one `--` and a number of rows from 1 to 100,000. What
+/// the words, the files and the script come to is the run's course, and what the run writes and how it
+/// ends follow from that, want of memory and the faults of the four outer objects. A step is one
+/// comparison of a base preference.
 pub fn run<S: Source, O: Sink, E: Sink, H: Shelf, L: Ledger>(
     alloc: Global,
     words: &[Text],
@@ -90,16 +93,22 @@ pub fn run<S: Source, O: Sink, E: Sink, H: Shelf, L: Ledger>(
     ensures text { WritesText (Comes words.now (H.files shelf.old) (S.left script.old)) result
         (O.written out.old) (O.written out.new) }
     ensures one_end { HasOneEnd (Comes words.now (H.files shelf.old) (S.left script.old)) }
-    ensures due { WritesDue (Comes words.now (H.files shelf.old) (S.left script.old)) result
+    ensures due { WritesDue (Comes words.now (H.files shelf.old) (S.left script.old)) (accepted words.now) result
         (E.written err.old) (E.written err.new) }
-    ensures read_whole { result ≡ Status.Done → IsAtEnd (S.left script.new) }
+    ensures read_whole { result ≡ Status.Done → AsksForScript (accepted words.now) → IsAtEnd (S.left script.new) }
+    ensures unread { (AsksForScript (accepted words.now) → ⊥) → S.left script.new ≡ S.left script.old }
+
+    // An answer takes from one to eight steps a test, and so many tests as its plan needs at least and
+    // may take at most. Where they are asked for, the counts stand on `err`.
+    ensures counted { result ≡ Status.Done → AtEnd (Comes words.now (H.files shelf.old) (S.left script.old))
+        (λ end. FinishesAt end (E.written err.old) (E.written err.new) steps.old steps.new) }
 
     // No fault is answered by itself.
     ensures read_fault { result ≡ Status.ReadFault → Rose (S.faults script.old) (S.faults script.new) }
     ensures write_fault { result ≡ Status.WriteFault
         → FallsShort (IsTextOf (Comes words.now (H.files shelf.old) (S.left script.old)))
         (O.faults out.old) (O.faults out.new) (O.written out.old) (O.written out.new)
-        ⊎ FallsShort (IsDueOf (Comes words.now (H.files shelf.old) (S.left script.old)))
+        ⊎ FallsShort (IsDueSoFarOf (Comes words.now (H.files shelf.old) (S.left script.old)))
         (E.faults err.old) (E.faults err.new) (E.written err.old) (E.written err.new) }
     ensures shelf_fault { result ≡ Status.ShelfFault → Rose (H.faults shelf.old) (H.faults shelf.new) }
     ensures sure_shelf { IsTrue (H.sure shelf.old) → result ≡ Status.ShelfFault
@@ -119,7 +128,7 @@ pub fn run<S: Source, O: Sink, E: Sink, H: Shelf, L: Ledger>(
         → (result ≡ Status.Done) ⊎ (result ≡ Status.Memory) }
 {
     match prepare(alloc, words, script, shelf) {
-        Ok(work) => write_work(alloc, &work, out),
+        Ok(work) => write_work(alloc, &work, out, err, steps),
         Err(Stop::Usage) => refuse_words(err),
         Err(Stop::Refused(fault)) => refuse(alloc, &fault, err),
         Err(Stop::ReadFault) => Status::ReadFault,

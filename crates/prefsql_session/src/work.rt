@@ -8,4 +8,6 @@ use query_meaning::Block;
 pub(crate) enum Work {
     /// What the task asks of each statement, over these tables.
     Statements(Task, TableSet, List<Block>),
+    /// The summary of the bench, over a table of so many rows.
+    Bench(u32),
 }

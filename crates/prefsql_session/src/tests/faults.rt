@@ -205,7 +205,7 @@ fn faults_of_tables(rt: HostRuntime) -> Result<(), Fail> {
 #[test]
 fn words_of_command_lines(rt: HostRuntime) -> Result<(), Fail> {
     let alloc = rt.alloc();
-    let words: [&[&str]; 14] = [
+    let words: [&[&str]; 18] = [
         &[],
         &[""],
         &["answer", "CARS"],
@@ -217,6 +217,10 @@ fn words_of_command_lines(rt: HostRuntime) -> Result<(), Fail> {
         &["rewrite", "--stats"],
         &["bench", "0"],
         &["bench", "100001"],
+        &["bench", "0000001"],
+        &["bench", "+1"],
+        &["bench", "1", "--stats"],
+        &["explain", "--stats"],
         &["answer", "--", "--"],
         &["--", "answer"],
         &["help"],

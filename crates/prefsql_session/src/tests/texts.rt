@@ -1,5 +1,5 @@
-//! The plans and the SQL queries of scripts over the cars and the dealers.
-use super::case::{Case, answered, ends};
+//! The plans and the SQL queries of scripts over the cars and the dealers, counts of tests, and the bench.
+use super::case::{CHEAPEST, CHEAPEST_CARS, Case, answered, ends};
 use std::test::Fail;
 
 #[test]
@@ -35,6 +35,61 @@ fn an_sql_query(rt: HostRuntime) -> Result<(), Fail> {
         ..answered(
             b"SELECT id FROM cars PREFERRING LOWEST(price) GROUPING dealer",
             "SELECT \"A1\".\"C1\" AS \"ID\" FROM (SELECT \"T1\".\"ID\" AS \"C1\", \"T1\".\"DEALER\" AS \"C2\", \"T1\".\"PRICE\" AS \"L1\" FROM \"CARS\" AS \"T1\") AS \"A1\" WHERE NOT EXISTS (SELECT 1 AS \"X1\" FROM (SELECT \"T1\".\"ID\" AS \"C1\", \"T1\".\"DEALER\" AS \"C2\", \"T1\".\"PRICE\" AS \"L1\" FROM \"CARS\" AS \"T1\") AS \"A2\" WHERE (\"A2\".\"C2\" = \"A1\".\"C2\" OR \"A2\".\"C2\" IS NULL AND \"A1\".\"C2\" IS NULL) AND \"A2\".\"L1\" < \"A1\".\"L1\");\n",
+        )
+    };
+    assert!(rt; ends(rt.alloc(), &case)?);
+    Ok(())
+}
+
+// How many tests an answer takes is bounded by the rows in and out of its plan. One line tells it.
+#[test]
+fn counts_of_tests(rt: HostRuntime) -> Result<(), Fail> {
+    let alloc = rt.alloc();
+    let from_two: &[&str] = &["tests 2\n", "tests 3\n", "tests 4\n", "tests 5\n"];
+    let from_three: &[&str] = &[
+        "tests 3\n",
+        "tests 4\n",
+        "tests 5\n",
+        "tests 6\n",
+        "tests 7\n",
+        "tests 8\n",
+        "tests 9\n",
+        "tests 10\n",
+    ];
+    for (script, out, lines) in [
+        (CHEAPEST, CHEAPEST_CARS, from_three),
+        (
+            "SELECT id FROM cars PREFERRING LOWEST(price) GROUPING dealer",
+            "ID\n2\n3\n4\n\n",
+            from_two,
+        ),
+    ] {
+        let mut ways = 0;
+        for line in lines {
+            let case = Case {
+                words: &["answer", "CARS=cars.csv", "--stats", "DEALERS=dealers.csv"],
+                err: line,
+                ..answered(script.as_bytes(), out)
+            };
+            if ends(alloc, &case)? {
+                ways = 1;
+            }
+        }
+        assert_eq!(rt; ways, 1);
+    }
+    Ok(())
+}
+
+// The bench asks for no file and no script.
+#[test]
+fn the_bench(rt: HostRuntime) -> Result<(), Fail> {
+    let case = Case {
+        words: &["bench", "--", "1"],
+        failing_load: 1,
+        failing_read: 1,
+        ..answered(
+            b"SELECT",
+            "bench 1\nstatement 1 rows 1\nstatement 2 rows 1\nstatement 3 rows 1\n",
         )
     };
     assert!(rt; ends(rt.alloc(), &case)?);

@@ -3,7 +3,7 @@ use Rattle.std.specs.Prelude.{unwrap_or}
 use Rattle.std.proofs.lemmas.Option.{none-some}
 use Rattle.std.proofs.lemmas.Result.{IfOk-weaker}
 use Rattle.clap.proofs.WalkLemmas.{first_value-rows, one_text-rows, raw_values-rows}
-use Rattle.clap.specs.Matches.{found_of, first_value, one_text, raw_values}
+use Rattle.clap.specs.Matches.{found_of, one_text}
 use Rattle.clap.specs.Walk.{all_of, rows_of}
 use Rattle.prefsql_session.specs.CommandLine.{command_of}
 use Rattle.prefsql_session.proofs.Meaning.{flag_is}

@@ -1,13 +1,51 @@
+use Rattle.prefsql_session.specs.CommandLine.{accepted}
 use Rattle.prefsql_session.specs.Course.{Comes}
 use Rattle.prefsql_session.proofs.OneEnd.{one_end}
-use Rattle.prefsql_session.proofs.RunLemmas.{refused_unready, usage_unready, worked_text}
+use Rattle.prefsql_session.proofs.RunLemmas.{refused_due, refused_unready, usage_unready, worked_counted, worked_due, worked_short, worked_text}
 use Rattle.prefsql_session.proofs.session.run.Goals as goal
 
 pub returns-in-Ok-clause-text : goal.returns-in-Ok-clause-text
 returns-in-Ok-clause-text g c =
-    worked_text (Comes c.args.words.now (g.H.Shelf.files c.args.shelf.now) (g.S.Source.left c.args.script.now)) c.in-Ok.work c.in-Ok.ensures.follows
+    worked_text (Comes c.args.words.now (g.H.Shelf.files c.args.shelf.now) (g.S.Source.left c.args.script.now)) (accepted c.args.words.now) c.in-Ok.work
+    c.in-Ok.ensures.follows c.in-Ok.ensures.asked
     (g.O.Sink.faults c.args.out.now) (g.O.Sink.faults c.write_work.new.out) (g.O.Sink.written c.args.out.now) (g.O.Sink.written c.write_work.new.out)
+    (g.E.Sink.faults c.args.err.now) (g.E.Sink.faults c.write_work.new.err) (g.E.Sink.written c.args.err.now) (g.E.Sink.written c.write_work.new.err)
+    c.args.steps.now c.write_work.new.steps
     c.write_work.result c.write_work.ensures.wrote
+
+pub returns-in-Ok-clause-due : goal.returns-in-Ok-clause-due
+returns-in-Ok-clause-due g c =
+    worked_due (Comes c.args.words.now (g.H.Shelf.files c.args.shelf.now) (g.S.Source.left c.args.script.now)) (accepted c.args.words.now) c.in-Ok.work
+    c.in-Ok.ensures.follows c.in-Ok.ensures.asked
+    (g.O.Sink.faults c.args.out.now) (g.O.Sink.faults c.write_work.new.out) (g.O.Sink.written c.args.out.now) (g.O.Sink.written c.write_work.new.out)
+    (g.E.Sink.faults c.args.err.now) (g.E.Sink.faults c.write_work.new.err) (g.E.Sink.written c.args.err.now) (g.E.Sink.written c.write_work.new.err)
+    c.args.steps.now c.write_work.new.steps
+    c.write_work.result c.write_work.ensures.wrote
+
+pub returns-in-Ok-clause-write_fault : goal.returns-in-Ok-clause-write_fault
+returns-in-Ok-clause-write_fault g c = λ fault.
+    worked_short (Comes c.args.words.now (g.H.Shelf.files c.args.shelf.now) (g.S.Source.left c.args.script.now)) (accepted c.args.words.now) c.in-Ok.work
+    c.in-Ok.ensures.follows c.in-Ok.ensures.asked
+    (g.O.Sink.faults c.args.out.now) (g.O.Sink.faults c.write_work.new.out) (g.O.Sink.written c.args.out.now) (g.O.Sink.written c.write_work.new.out)
+    (g.E.Sink.faults c.args.err.now) (g.E.Sink.faults c.write_work.new.err) (g.E.Sink.written c.args.err.now) (g.E.Sink.written c.write_work.new.err)
+    c.args.steps.now c.write_work.new.steps
+    c.write_work.result fault c.write_work.ensures.wrote
+
+pub returns-in-Ok-clause-counted : goal.returns-in-Ok-clause-counted
+returns-in-Ok-clause-counted g c = λ done.
+    worked_counted (Comes c.args.words.now (g.H.Shelf.files c.args.shelf.now) (g.S.Source.left c.args.script.now)) (accepted c.args.words.now) c.in-Ok.work
+    c.in-Ok.ensures.follows c.in-Ok.ensures.asked
+    (g.O.Sink.faults c.args.out.now) (g.O.Sink.faults c.write_work.new.out) (g.O.Sink.written c.args.out.now) (g.O.Sink.written c.write_work.new.out)
+    (g.E.Sink.faults c.args.err.now) (g.E.Sink.faults c.write_work.new.err) (g.E.Sink.written c.args.err.now) (g.E.Sink.written c.write_work.new.err)
+    c.args.steps.now c.write_work.new.steps
+    c.write_work.result done c.write_work.ensures.wrote
+
+pub returns-in-Err-Refused-clause-due : goal.returns-in-Err-Refused-clause-due
+returns-in-Err-Refused-clause-due g c =
+    refused_due (Comes c.args.words.now (g.H.Shelf.files c.args.shelf.now) (g.S.Source.left c.args.script.now)) c.in-Err-Refused.fault
+    (rw c.in-Err-Refused.field-0-is at c.in-Err-Refused.ensures.follows)
+    (g.E.Sink.faults c.args.err.now) (g.E.Sink.faults c.refuse.new.err) (g.E.Sink.written c.args.err.now) (g.E.Sink.written c.refuse.new.err)
+    (accepted c.args.words.now) c.refuse.result c.refuse.ensures.wrote
 
 pub returns-in-Err-Usage-clause-complete : goal.returns-in-Err-Usage-clause-complete
 returns-in-Err-Usage-clause-complete g c = λ good _ _ _ _. absurd (usage_unready (Comes c.args.words.now (g.H.Shelf.files c.args.shelf.now) (g.S.Source.left c.args.script.now))
