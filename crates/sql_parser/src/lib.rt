@@ -13,3 +13,6 @@ mod statements;
 
 pub use fault::ParseFault;
 pub use script::parse_sql;
+
+#[cfg(test)]
+mod tests;
