@@ -7,3 +7,6 @@ pub mod OneFault
 pub mod Plain
 pub mod Turns
 pub mod Choices
+pub mod MadeEquations
+pub mod MadeForms
+pub mod MadeTrees

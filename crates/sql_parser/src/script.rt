@@ -5,6 +5,7 @@ ghost use Rattle.prefsql_lexer.specs.Bounds.{AreTokensOf};
 ghost use Rattle.token_forms.specs.Place.{SaysCode, place_of};
 ghost use Rattle.sql_text.specs.Scripts.{IsScript};
 ghost use Rattle.sql_parser.specs.Script.{SaysFault};
+ghost use Rattle.sql_parser.specs.WellMade.{AreWellMade};
 
 use crate::fault::ParseFault;
 use crate::reader::Reader;
@@ -32,6 +33,7 @@ pub fn parse_sql(
 ) -> Result<List<NamedStatement>, ParseFault>
     requires { AreTokensOf 256 end tokens.now }
     ensures script { IfOk result (IsScript tokens.now) }
+    ensures well_made { IfOk result AreWellMade }
     ensures fault { IfErr result (SaysFault tokens.now end) }
 {
     let reader = Reader {

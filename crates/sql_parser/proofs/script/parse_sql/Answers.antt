@@ -6,6 +6,7 @@ use Rattle.sql_parser.specs.ReadGrammar.{statement_form}
 use Rattle.sql_parser.specs.Outcome.{outcome}
 use Rattle.sql_parser.proofs.Language.{language}
 use Rattle.sql_parser.proofs.Accepted.{from_language}
+use Rattle.sql_parser.proofs.MadeTrees.{script_well_made}
 use Rattle.sql_parser.proofs.script.parse_sql.Goals as goal
 
 pub returns-in-Err-Fault-clause-fault : goal.returns-in-Err-Fault-clause-fault
@@ -17,6 +18,12 @@ pub returns-then-is_at_end-clause-script : goal.returns-then-is_at_end-clause-sc
 returns-then-is_at_end-clause-script c =
     from_language c.args.tokens.now c.in-Ok.statements
     (script_found language 256 c.args.tokens.now c.in-Ok.statements c.in-Ok.is_full c.script.new.tokens (ap (λ z. outcome 256 (counted statement_form 64) z) (sym c.new-cursor.ensures) ∙ c.in-Ok.ensures) (c.is_at_end.ensures.0 c.if-is_at_end.true))
+
+pub returns-then-is_at_end-clause-well_made : goal.returns-then-is_at_end-clause-well_made
+returns-then-is_at_end-clause-well_made c =
+    let found =
+    script_found language 256 c.args.tokens.now c.in-Ok.statements c.in-Ok.is_full c.script.new.tokens (ap (λ z. outcome 256 (counted statement_form 64) z) (sym c.new-cursor.ensures) ∙ c.in-Ok.ensures) (c.is_at_end.ensures.0 c.if-is_at_end.true) in
+    script_well_made 256 c.args.end c.args.tokens.now c.in-Ok.statements c.requires (from_language c.args.tokens.now c.in-Ok.statements found)
 
 pub returns-else-is_at_end-clause-fault : goal.returns-else-is_at_end-clause-fault
 returns-else-is_at_end-clause-fault c =
