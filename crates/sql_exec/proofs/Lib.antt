@@ -1,5 +1,6 @@
 pub mod Executed
 pub mod Gathered
+pub mod Named
 pub mod Nested
 pub mod Once
 pub mod Prepared

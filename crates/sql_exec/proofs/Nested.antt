@@ -1,16 +1,15 @@
 -- A search through the rows of several items.
-use Rattle.std.proofs.Common.{◌≡◌, Bool, true, false, List, [], ◌∷◌, ◌++◌, map, cond, refl, sym, ap, ◌∙◌, append-nil, append_assoc}
+use Rattle.std.proofs.Common.{◌≡◌, Bool, List, [], ◌∷◌, ◌++◌, map, refl, sym, ap, ◌∙◌, append-nil, append_assoc}
 use Rattle.std.specs.List.{filter, flat_map}
 use Rattle.std.proofs.lemmas.List.Elements.{filter-append}
 use Rattle.std.proofs.lemmas.Simd.{map-map}
-use Rattle.prefsql_values.specs.Truth.{is_true}
 use Rattle.prefsql_tables.specs.declared.table.AnswerRow.{AnswerRow}
 use Rattle.prefsql_tables.specs.Product.{product}
 use Rattle.prefsql_tables.proofs.ProductLemmas.{map-flat_map}
 use Rattle.sql_tree.specs.Meaning.{Scope, Scopes}
 use Rattle.sql_exec.specs.declared.ready.ReadyCond.{ReadyCond}
 use Rattle.sql_exec.specs.declared.ready.ReadySearch.{ReadySearch, Each, Test}
-use Rattle.sql_exec.specs.Ready.{keeps, kept, nested, truth}
+use Rattle.sql_exec.specs.Ready.{keeps, kept, nested}
 use Rattle.sql_exec.proofs.ReadyReads.{kept-Each, kept-Test}
 
 filter-flat_map : {X Y : Type 0} (K : Y → Bool) (f : X → List Y) (xs : List X) → filter K (flat_map f xs) ≡ flat_map (λ x. filter K (f x)) xs

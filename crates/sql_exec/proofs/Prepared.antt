@@ -4,7 +4,6 @@ use Rattle.std.specs.List.{filter, list_any}
 use Rattle.std.specs.Option.{option_map}
 use Rattle.std.proofs.lemmas.Simd.{map-map}
 use Rattle.prefsql_values.specs.declared.value.CompareOp.{CompareOp}
-use Rattle.prefsql_values.specs.declared.value.Value.{Value}
 use Rattle.prefsql_values.specs.declared.value.Value.TheVariants.{Num, Str, Null}
 use Rattle.prefsql_values.specs.Truth.{negated, negated_if, all_true, any_true, is_true}
 use Rattle.prefsql_values.specs.Value.{comparison, between, one_of, is_null, truth_of}

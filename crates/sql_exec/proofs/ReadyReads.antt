@@ -1,5 +1,5 @@
 -- The meaning of each part of a query that was made ready, by the meaning of the parts below it.
-use Rattle.std.proofs.Common.{◌≡◌, Bool, true, Option, Some, None, List, [], ◌∷◌, ◌++◌, map, cond, rules}
+use Rattle.std.proofs.Common.{◌≡◌, Bool, true, Some, None, List, [], ◌∷◌, ◌++◌, map, cond, rules}
 use Rattle.std.specs.List.{flat_map, list_any}
 use Rattle.std.proofs.lemmas.Simd.{map-map}
 use Rattle.prefsql_values.specs.declared.value.Value.{Value}

@@ -1,10 +1,9 @@
 -- The rows of a table, cell by cell.
-use Rattle.std.proofs.Common.{◌≡◌, ℕ, ◌<◌, ◌≤◌, ◌+◌, suc, List, [], ◌∷◌, ◌++◌, take, length, get_or, refl, sym, ap, ◌∙◌, arith}
+use Rattle.std.proofs.Common.{◌≡◌, ℕ, ◌<◌, ◌≤◌, ◌+◌, suc, List, [], ◌∷◌, ◌++◌, take, length, get_or, sym, ap, ◌∙◌, arith}
 use Rattle.std.proofs.Math.Seq.{take-suc}
 use Rattle.prefsql_values.specs.declared.value.Value.{Value}
 use Rattle.prefsql_values.specs.declared.value.Value.TheVariants.{Null}
-use Rattle.prefsql_tables.specs.declared.table.AnswerRow.{AnswerRow}
-use Rattle.prefsql_tables.specs.Table.{Tables, HasTable, columns_of, no_row, no_table, rows_of, table_at}
+use Rattle.prefsql_tables.specs.Table.{Tables, columns_of, no_row, no_table, rows_of, table_at}
 use Rattle.prefsql_tables.specs.Valid.{IsTable, IsTableSet}
 use Rattle.prefsql_tables.proofs.ValidLemmas.{row_width}
 

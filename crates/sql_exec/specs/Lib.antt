@@ -1,3 +1,4 @@
+pub mod Named
 pub mod Preparing
 pub mod Ready
 pub mod Seen

@@ -1,9 +1,12 @@
 //! Makes queries ready to be run: each table that a query names is laid out, and each derived table
 //! is computed, once.
-ghost use Rattle.std.specs.Prelude.{◌≡◌, [], ◌∷◌, map, IfOk};
+ghost use Rattle.std.specs.Prelude.{◌≡◌, [], ◌∷◌, map, All, IfOk};
+ghost use Rattle.std.specs.List.{flat_map};
 ghost use Rattle.std.specs.Option.{option_map};
 ghost use Rattle.prefsql_tables.specs.Table.{rows_of};
+ghost use Rattle.sql_tree.specs.Fits.{FitsTables, IsTableOf, if_written};
 ghost use Rattle.sql_tree.specs.Meaning.{Scopes, else_value, from_rows, is_kept, item_value, rows_in, source_rows, term_value, truth_in, value_in, when_value as sql_when_value};
+ghost use Rattle.sql_exec.specs.Named.{cond_tables, from_tables, item_tables, scalar_tables, term_tables, when_tables};
 ghost use Rattle.sql_exec.specs.Preparing.{rows_selected, scopes_kept};
 ghost use Rattle.sql_exec.specs.Ready.{keeps, kept, nested, row_of, truth, value, when_value};
 
@@ -21,6 +24,7 @@ use std::alloc::Global;
 /// A condition made ready.
 #[cycle(preparing)]
 fn ready_cond(alloc: Global, cond: &SqlCond, tables: &TableSet) -> Result<ReadyCond, Memory>
+    requires { All (IsTableOf tables.now) (cond_tables cond.now) }
     ensures { IfOk result (λ ready. truth ready ≡ truth_in tables.now cond.now) }
 {
     match cond {
@@ -70,6 +74,7 @@ fn ready_conds(
     conds: &[SqlCond],
     tables: &TableSet,
 ) -> Result<List<ReadyCond>, Memory>
+    requires { All (IsTableOf tables.now) (flat_map cond_tables conds.now) }
     ensures { IfOk result (λ ready. map truth ready ≡ map (truth_in tables.now) conds.now) }
 {
     let mut ready = List::new(alloc);
@@ -82,6 +87,7 @@ fn ready_conds(
 /// A scalar made ready.
 #[cycle(preparing)]
 fn ready_scalar(alloc: Global, scalar: &SqlScalar, tables: &TableSet) -> Result<ReadyScalar, Memory>
+    requires { All (IsTableOf tables.now) (scalar_tables scalar.now) }
     ensures { IfOk result (λ ready. value ready ≡ value_in tables.now scalar.now) }
 {
     match scalar {
@@ -107,6 +113,7 @@ fn ready_scalars(
     scalars: &[SqlScalar],
     tables: &TableSet,
 ) -> Result<List<ReadyScalar>, Memory>
+    requires { All (IsTableOf tables.now) (flat_map scalar_tables scalars.now) }
     ensures { IfOk result (λ ready. map value ready ≡ map (value_in tables.now) scalars.now) }
 {
     let mut ready = List::new(alloc);
@@ -123,6 +130,7 @@ fn ready_else(
     last: &Option<Boxed<SqlScalar>>,
     tables: &TableSet,
 ) -> Result<ReadyScalar, Memory>
+    requires { All (IsTableOf tables.now) (if_written (option_map scalar_tables last.now)) }
     ensures { IfOk result (λ ready. value ready ≡ else_value (option_map (value_in tables.now) last.now)) }
 {
     match last {
@@ -138,6 +146,7 @@ fn ready_whens(
     whens: &[SqlWhen],
     tables: &TableSet,
 ) -> Result<List<ReadyWhen>, Memory>
+    requires { All (IsTableOf tables.now) (flat_map when_tables whens.now) }
     ensures { IfOk result (λ ready. map when_value ready ≡ map (sql_when_value tables.now) whens.now) }
 {
     let mut ready = List::new(alloc);
@@ -150,6 +159,7 @@ fn ready_whens(
 /// A WHEN made ready.
 #[cycle(preparing)]
 fn ready_when(alloc: Global, when: &SqlWhen, tables: &TableSet) -> Result<ReadyWhen, Memory>
+    requires { All (IsTableOf tables.now) (when_tables when.now) }
     ensures { IfOk result (λ ready. when_value ready ≡ sql_when_value tables.now when.now) }
 {
     let cond = ready_cond(alloc, &when.cond, tables)?;
@@ -164,6 +174,7 @@ fn ready_terms(
     terms: &[SumTerm],
     tables: &TableSet,
 ) -> Result<List<ReadyScalar>, Memory>
+    requires { All (IsTableOf tables.now) (flat_map term_tables terms.now) }
     ensures { IfOk result (λ ready. map value ready ≡ map (term_value tables.now) terms.now) }
 {
     let mut ready = List::new(alloc);
@@ -176,6 +187,7 @@ fn ready_terms(
 /// A term of a sum made ready.
 #[cycle(preparing)]
 fn ready_term(alloc: Global, term: &SumTerm, tables: &TableSet) -> Result<ReadyScalar, Memory>
+    requires { All (IsTableOf tables.now) (term_tables term.now) }
     ensures { IfOk result (λ ready. value ready ≡ term_value tables.now term.now) }
 {
     let scalar = ready_scalar(alloc, &term.scalar, tables)?;
@@ -193,6 +205,7 @@ fn ready_items(
     items: &[SqlItem],
     tables: &TableSet,
 ) -> Result<List<ReadyScalar>, Memory>
+    requires { All (IsTableOf tables.now) (flat_map item_tables items.now) }
     ensures { IfOk result (λ ready. map value ready ≡ map (item_value tables.now) items.now) }
 {
     let mut ready = List::new(alloc);
@@ -205,6 +218,7 @@ fn ready_items(
 /// An item of a query made ready.
 #[cycle(preparing)]
 fn ready_item(alloc: Global, item: &SqlItem, tables: &TableSet) -> Result<ReadyScalar, Memory>
+    requires { All (IsTableOf tables.now) (item_tables item.now) }
     ensures { IfOk result (λ ready. value ready ≡ item_value tables.now item.now) }
 {
     ready_scalar(alloc, &item.value, tables)
@@ -217,6 +231,7 @@ fn ready_filter(
     filter: &Option<SqlCond>,
     tables: &TableSet,
 ) -> Result<ReadyCond, Memory>
+    requires { All (IsTableOf tables.now) (if_written (option_map cond_tables filter.now)) }
     ensures { IfOk result (λ ready. keeps ready ≡ is_kept (option_map (truth_in tables.now) filter.now)) }
 {
     match filter {
@@ -232,6 +247,7 @@ fn all_rows(
     from: &[SqlFrom],
     tables: &TableSet,
 ) -> Result<List<List<AnswerRow>>, Memory>
+    requires { All (IsTableOf tables.now) (flat_map from_tables from.now) }
     ensures { IfOk result (λ all. all ≡ map (from_rows tables.now) from.now) }
 {
     let mut all = List::new(alloc);
@@ -244,6 +260,7 @@ fn all_rows(
 /// The rows of a FROM item.
 #[cycle(preparing)]
 fn item_rows(alloc: Global, item: &SqlFrom, tables: &TableSet) -> Result<List<AnswerRow>, Memory>
+    requires { All (IsTableOf tables.now) (from_tables item.now) }
     ensures { IfOk result (λ rows. rows ≡ from_rows tables.now item.now) }
 {
     match &item.source {
@@ -258,18 +275,16 @@ fn stored_rows(
     table: &SqlTable,
     tables: &TableSet,
 ) -> Result<List<AnswerRow>, Memory>
+    requires { IsTableOf tables.now table.now }
     ensures { IfOk result (λ rows. rows ≡ rows_of tables.now table.now.index) }
 {
-    if tables.has_table_at(table.index, table.name.as_str(), &table.schema) {
-        table_rows(alloc, tables, table.index)
-    } else {
-        Err(Memory)
-    }
+    table_rows(alloc, tables, table.index)
 }
 
 /// The FROM and the WHERE of a query made ready.
 #[cycle(preparing)]
 fn ready_search(alloc: Global, query: &SqlQuery, tables: &TableSet) -> Result<ReadySearch, Memory>
+    requires { FitsTables tables.now query.now }
     ensures { IfOk result (λ ready. kept ready [] ≡ scopes_kept tables.now query.now) }
 {
     let test = ready_filter(alloc, &query.filter, tables)?;
@@ -301,6 +316,7 @@ pub(crate) fn rows_selected(
     query: &SqlQuery,
     tables: &TableSet,
 ) -> Result<List<AnswerRow>, Memory>
+    requires { FitsTables tables.now query.now }
     ensures { IfOk result (λ rows. rows ≡ rows_selected tables.now query.now []) }
 {
     let search = ready_search(alloc, query, tables)?;
@@ -326,6 +342,7 @@ fn shown(
 /// The rows of a query that no rows stand round.
 #[cycle(preparing)]
 fn query_rows(alloc: Global, query: &SqlQuery, tables: &TableSet) -> Result<List<AnswerRow>, Memory>
+    requires { FitsTables tables.now query.now }
     ensures { IfOk result (λ rows. rows ≡ rows_in tables.now query.now []) }
 {
     let rows = rows_selected(alloc, query, tables)?;

@@ -1,4 +1,4 @@
-use Rattle.std.proofs.Common.{◌≡◌, drop, length}
+use Rattle.std.proofs.Common.{◌≡◌, drop}
 use Rattle.std.specs.Cmp.Lexicographic.{pointwise}
 use Rattle.prefsql_values.specs.Value.{value_eq}
 use Rattle.sql_exec.proofs.distinct.are_same.Given as goal

@@ -1,4 +1,4 @@
-use Rattle.std.proofs.Common.{◌≡◌, map, Some, None, IfOk, sym, ap, ◌∙◌, subst}
+use Rattle.std.proofs.Common.{◌≡◌, map, IfOk, sym, ap, ◌∙◌, subst}
 use Rattle.prefsql_values.specs.Value.{value_of}
 use Rattle.sql_tree.specs.Meaning.{first_some, or_else}
 use Rattle.sql_exec.specs.Ready.{value, when_value}

@@ -1,4 +1,4 @@
-use Rattle.std.proofs.Common.{List, map, ap, ◌∙◌}
+use Rattle.std.proofs.Common.{map, ap, ◌∙◌}
 use Rattle.sql_tree.specs.declared.tree.SqlItem.{SqlItem}
 use Rattle.sql_exec.proofs.Executed.{answer_is}
 use Rattle.sql_exec.proofs.executing.execute.Goals as goal

@@ -1,4 +1,4 @@
-use Rattle.std.proofs.Common.{◌≡◌, ℕ, ◌<◌, ◌≤◌, List, sym, ap, ◌∙◌, get_or, take, length, arith}
+use Rattle.std.proofs.Common.{◌<◌, ◌≤◌, List, ap, ◌∙◌, get_or, length, arith}
 use Rattle.std.proofs.lemmas.List.{take_all}
 use Rattle.prefsql_values.specs.declared.value.Value.{Value}
 use Rattle.prefsql_tables.specs.declared.table.AnswerRow.{AnswerRow}

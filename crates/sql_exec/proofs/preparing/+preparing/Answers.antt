@@ -1,5 +1,14 @@
-use Rattle.std.proofs.Common.{rules, ◌≡◌, Bool, List, Option, [], ◌∷◌, IfOk, map, sym, ap, ◌∙◌, subst}
+use Rattle.std.proofs.Common.{rules, All, ◌≡◌, List, Option, [], ◌∷◌, IfOk, map, sym, ap, ◌∙◌, subst}
+use Rattle.std.specs.List.{flat_map}
 use Rattle.std.specs.Option.{option_map}
+use Rattle.sql_tree.specs.declared.tree.SqlCond.TheViews.{the_lemmas}
+use Rattle.sql_tree.specs.declared.tree.SqlFrom.{SqlFrom}
+use Rattle.sql_tree.specs.declared.tree.SqlItem.{SqlItem}
+use Rattle.sql_tree.specs.declared.tree.SqlWhen.{SqlWhen}
+use Rattle.sql_tree.specs.declared.tree.SumTerm.{SumTerm}
+use Rattle.sql_tree.specs.Fits.{FitsTables, IsTableOf}
+use Rattle.sql_exec.specs.Named.{cond_tables, from_tables, item_tables, scalar_tables, term_tables, when_tables}
+use Rattle.sql_exec.proofs.Named as named
 use Rattle.prefsql_values.specs.declared.value.Value.{Value}
 use Rattle.prefsql_tables.specs.declared.table.AnswerRow.{AnswerRow}
 use Rattle.sql_tree.specs.declared.tree.SqlCond.{SqlCond}
@@ -8,7 +17,7 @@ use Rattle.sql_tree.specs.declared.tree.SqlScalar.{SqlScalar}
 use Rattle.sql_tree.specs.Meaning.{Scopes, else_value, from_rows, is_kept, item_value, rows_in, term_value, truth_in, value_in}
 use Rattle.sql_tree.specs.Meaning as meaning
 use Rattle.sql_exec.specs.declared.ready.ReadyCond.{ReadyCond, And}
-use Rattle.sql_exec.specs.declared.ready.ReadyScalar.{ReadyScalar, Case}
+use Rattle.sql_exec.specs.declared.ready.ReadyScalar.{ReadyScalar}
 use Rattle.sql_exec.specs.declared.ready.ReadySearch.{ReadySearch}
 use Rattle.sql_exec.specs.Preparing.{scopes_kept}
 use Rattle.sql_exec.specs.Ready.{keeps, kept, row_of, truth, value, when_value}
@@ -132,3 +141,204 @@ rows_selected-returns t c =
     ∙ made.ready_rows c.args.tables.now c.args.query.now c.in_ok-search.search c.in_ok-items.items c.in_ok-search.ensures
     (c.in_ok-items.ensures ∙ ap (map (item_value c.args.tables.now)) c.as_slice.ensures))
     c.shown.ensures
+
+pub ready_cond-ready_conds-requires : goal.ready_cond-ready_conds-requires
+ready_cond-ready_conds-requires t c = (
+  search (rules, the_lemmas),
+  subst (λ (parts : List SqlCond). All (IsTableOf c.args.tables.now) (flat_map cond_tables parts)) (sym c.as_slice.ensures) (named.And_there (IsTableOf c.args.tables.now) c.args.cond.now c.in-And.parts c.in-And.is c.requires),
+)
+
+pub ready_cond-ready_conds-requires-in-Or : goal.ready_cond-ready_conds-requires-in-Or
+ready_cond-ready_conds-requires-in-Or t c = (
+  search (rules, the_lemmas),
+  subst (λ (parts : List SqlCond). All (IsTableOf c.args.tables.now) (flat_map cond_tables parts)) (sym c.as_slice-in-Or.ensures) (named.Or_there (IsTableOf c.args.tables.now) c.args.cond.now c.in-Or.parts c.in-Or.is c.requires),
+)
+
+pub ready_cond-ready_cond-requires : goal.ready_cond-ready_cond-requires
+ready_cond-ready_cond-requires t c = (
+  search (rules, the_lemmas),
+  subst (λ (part : SqlCond). All (IsTableOf c.args.tables.now) (cond_tables part)) (sym c.get.ensures) (named.Not_there (IsTableOf c.args.tables.now) c.args.cond.now c.in-Not.part c.in-Not.is c.requires),
+)
+
+pub ready_cond-ready_scalar-requires : goal.ready_cond-ready_scalar-requires
+ready_cond-ready_scalar-requires t c = (
+  search (rules, the_lemmas),
+  named.Compare_left (IsTableOf c.args.tables.now) c.args.cond.now c.in-Compare.op c.in-Compare.a c.in-Compare.b c.in-Compare.is c.requires,
+)
+
+pub ready_cond-ready_scalar-requires-in-Compare : goal.ready_cond-ready_scalar-requires-in-Compare
+ready_cond-ready_scalar-requires-in-Compare t c = (
+  search (rules, the_lemmas),
+  named.Compare_right (IsTableOf c.args.tables.now) c.args.cond.now c.in-Compare.op c.in-Compare.a c.in-Compare.b c.in-Compare.is c.requires,
+)
+
+pub ready_cond-ready_scalar-requires-in-Between : goal.ready_cond-ready_scalar-requires-in-Between
+ready_cond-ready_scalar-requires-in-Between t c = (
+  search (rules, the_lemmas),
+  named.Between_scalar (IsTableOf c.args.tables.now) c.args.cond.now c.in-Between.negate c.in-Between.a c.in-Between.low c.in-Between.high c.in-Between.is c.requires,
+)
+
+pub ready_cond-ready_scalar-requires-in-Between-2 : goal.ready_cond-ready_scalar-requires-in-Between-2
+ready_cond-ready_scalar-requires-in-Between-2 t c = (
+  search (rules, the_lemmas),
+  named.Between_low (IsTableOf c.args.tables.now) c.args.cond.now c.in-Between.negate c.in-Between.a c.in-Between.low c.in-Between.high c.in-Between.is c.requires,
+)
+
+pub ready_cond-ready_scalar-requires-in-Between-3 : goal.ready_cond-ready_scalar-requires-in-Between-3
+ready_cond-ready_scalar-requires-in-Between-3 t c = (
+  search (rules, the_lemmas),
+  named.Between_high (IsTableOf c.args.tables.now) c.args.cond.now c.in-Between.negate c.in-Between.a c.in-Between.low c.in-Between.high c.in-Between.is c.requires,
+)
+
+pub ready_cond-ready_scalar-requires-in-OneOf : goal.ready_cond-ready_scalar-requires-in-OneOf
+ready_cond-ready_scalar-requires-in-OneOf t c = (
+  search (rules, the_lemmas),
+  named.OneOf_scalar (IsTableOf c.args.tables.now) c.args.cond.now c.in-OneOf.negate c.in-OneOf.a c.in-OneOf.list c.in-OneOf.is c.requires,
+)
+
+pub ready_cond-ready_scalars-requires : goal.ready_cond-ready_scalars-requires
+ready_cond-ready_scalars-requires t c = (
+  search (rules, the_lemmas),
+  subst (λ (parts : List SqlScalar). All (IsTableOf c.args.tables.now) (flat_map scalar_tables parts)) (sym c.as_slice-in-OneOf.ensures) (named.OneOf_list (IsTableOf c.args.tables.now) c.args.cond.now c.in-OneOf.negate c.in-OneOf.a c.in-OneOf.list c.in-OneOf.is c.requires),
+)
+
+pub ready_cond-ready_scalar-requires-in-IsNull : goal.ready_cond-ready_scalar-requires-in-IsNull
+ready_cond-ready_scalar-requires-in-IsNull t c = (
+  search (rules, the_lemmas),
+  named.IsNull_there (IsTableOf c.args.tables.now) c.args.cond.now c.in-IsNull.negate c.in-IsNull.a c.in-IsNull.is c.requires,
+)
+
+pub ready_cond-ready_search-requires : goal.ready_cond-ready_search-requires
+ready_cond-ready_search-requires t c = (
+  search (rules, the_lemmas),
+  subst (λ (query : SqlQuery). FitsTables c.args.tables.now query) (sym c.get-in-Exists.ensures) (named.Exists_there (IsTableOf c.args.tables.now) c.args.cond.now c.in-Exists.query c.in-Exists.is c.requires),
+)
+
+pub ready_conds-ready_cond-requires : goal.ready_conds-ready_cond-requires
+ready_conds-ready_cond-requires t c = (
+  search (rules, the_lemmas),
+  named.each_there (IsTableOf c.args.tables.now) cond_tables c.args.conds.now c.loop-cond.cond-index c.cond-item.result c.cond-item.result c.loop-cond-test.true c.cond-item.is c.requires,
+)
+
+pub ready_scalars-ready_scalar-requires : goal.ready_scalars-ready_scalar-requires
+ready_scalars-ready_scalar-requires t c = (
+  search (rules, the_lemmas),
+  named.each_there (IsTableOf c.args.tables.now) scalar_tables c.args.scalars.now c.loop-scalar.scalar-index c.scalar-item.result c.scalar-item.result c.loop-scalar-test.true c.scalar-item.is c.requires,
+)
+
+pub ready_whens-ready_when-requires : goal.ready_whens-ready_when-requires
+ready_whens-ready_when-requires t c = (
+  search (rules, the_lemmas),
+  named.each_there (IsTableOf c.args.tables.now) when_tables c.args.whens.now c.loop-when.when-index c.when-item.result c.when-item.result c.loop-when-test.true c.when-item.is c.requires,
+)
+
+pub ready_terms-ready_term-requires : goal.ready_terms-ready_term-requires
+ready_terms-ready_term-requires t c = (
+  search (rules, the_lemmas),
+  named.each_there (IsTableOf c.args.tables.now) term_tables c.args.terms.now c.loop-term.term-index c.term-item.result c.term-item.result c.loop-term-test.true c.term-item.is c.requires,
+)
+
+pub ready_items-ready_item-requires : goal.ready_items-ready_item-requires
+ready_items-ready_item-requires t c = (
+  search (rules, the_lemmas),
+  named.each_there (IsTableOf c.args.tables.now) item_tables c.args.items.now c.loop-item.item-index c.item-item.result c.item-item.result c.loop-item-test.true c.item-item.is c.requires,
+)
+
+pub all_rows-item_rows-requires : goal.all_rows-item_rows-requires
+all_rows-item_rows-requires t c = (
+  search (rules, the_lemmas),
+  named.each_there (IsTableOf c.args.tables.now) from_tables c.args.from.now c.loop-item.item-index c.item-item.result c.item-item.result c.loop-item-test.true c.item-item.is c.requires,
+)
+
+pub ready_scalar-ready_terms-requires : goal.ready_scalar-ready_terms-requires
+ready_scalar-ready_terms-requires t c = (
+  search (rules, the_lemmas),
+  subst (λ (parts : List SumTerm). All (IsTableOf c.args.tables.now) (flat_map term_tables parts)) (sym c.as_slice.ensures) (named.Sum_there (IsTableOf c.args.tables.now) c.args.scalar.now c.in-Sum.terms c.in-Sum.is c.requires),
+)
+
+pub ready_scalar-ready_whens-requires : goal.ready_scalar-ready_whens-requires
+ready_scalar-ready_whens-requires t c = (
+  search (rules, the_lemmas),
+  subst (λ (parts : List SqlWhen). All (IsTableOf c.args.tables.now) (flat_map when_tables parts)) (sym c.as_slice-in-Case.ensures) (named.Case_whens (IsTableOf c.args.tables.now) c.args.scalar.now c.in-Case.whens c.in-Case.last c.in-Case.is c.requires),
+)
+
+pub ready_scalar-ready_else-requires : goal.ready_scalar-ready_else-requires
+ready_scalar-ready_else-requires t c = (
+  search (rules, the_lemmas),
+  named.Case_last (IsTableOf c.args.tables.now) c.args.scalar.now c.in-Case.whens c.in-Case.last c.in-Case.is c.requires,
+)
+
+pub ready_else-ready_scalar-requires : goal.ready_else-ready_scalar-requires
+ready_else-ready_scalar-requires t c = (
+  search (rules, the_lemmas),
+  subst (λ (scalar : SqlScalar). All (IsTableOf c.args.tables.now) (scalar_tables scalar)) (sym c.get.ensures) (named.some_scalar (IsTableOf c.args.tables.now) c.args.last.now c.in-Some.last c.in-Some.is c.requires),
+)
+
+pub ready_when-ready_cond-requires : goal.ready_when-ready_cond-requires
+ready_when-ready_cond-requires t c = (
+  search (rules, the_lemmas),
+  named.when_cond (IsTableOf c.args.tables.now) c.args.when.now c.requires,
+)
+
+pub ready_when-ready_scalar-requires : goal.ready_when-ready_scalar-requires
+ready_when-ready_scalar-requires t c = (
+  search (rules, the_lemmas),
+  named.when_scalar (IsTableOf c.args.tables.now) c.args.when.now c.requires,
+)
+
+pub ready_term-ready_scalar-requires : goal.ready_term-ready_scalar-requires
+ready_term-ready_scalar-requires t c = (
+  search (rules, the_lemmas),
+  named.term_there (IsTableOf c.args.tables.now) c.args.term.now c.requires,
+)
+
+pub ready_item-ready_scalar-requires : goal.ready_item-ready_scalar-requires
+ready_item-ready_scalar-requires t c = (
+  search (rules, the_lemmas),
+  named.item_there (IsTableOf c.args.tables.now) c.args.item.now c.requires,
+)
+
+pub ready_filter-ready_cond-requires : goal.ready_filter-ready_cond-requires
+ready_filter-ready_cond-requires t c = (
+  search (rules, the_lemmas),
+  named.some_cond (IsTableOf c.args.tables.now) c.args.filter.now c.in-Some.cond c.in-Some.is c.requires,
+)
+
+pub item_rows-stored_rows-requires : goal.item_rows-stored_rows-requires
+item_rows-stored_rows-requires t c = named.Table_there (IsTableOf c.args.tables.now) c.args.item.now c.in-Table.table c.in-Table.is c.requires
+
+pub item_rows-query_rows-requires : goal.item_rows-query_rows-requires
+item_rows-query_rows-requires t c = (
+  search (rules, the_lemmas),
+  subst (λ (query : SqlQuery). FitsTables c.args.tables.now query) (sym c.get.ensures) (named.Derived_there (IsTableOf c.args.tables.now) c.args.item.now c.in-Derived.query c.in-Derived.is c.requires),
+)
+
+pub ready_search-ready_filter-requires : goal.ready_search-ready_filter-requires
+ready_search-ready_filter-requires t c = (
+  search (rules, the_lemmas),
+  named.query_filter (IsTableOf c.args.tables.now) c.args.query.now c.requires,
+)
+
+pub ready_search-all_rows-requires : goal.ready_search-all_rows-requires
+ready_search-all_rows-requires t c = (
+  search (rules, the_lemmas),
+  subst (λ (from : List SqlFrom). All (IsTableOf c.args.tables.now) (flat_map from_tables from)) (sym c.as_slice.ensures) (named.query_from (IsTableOf c.args.tables.now) c.args.query.now c.requires),
+)
+
+pub rows_selected-ready_search-requires : goal.rows_selected-ready_search-requires
+rows_selected-ready_search-requires t c = (
+  search (rules, the_lemmas),
+  c.requires,
+)
+
+pub rows_selected-ready_items-requires : goal.rows_selected-ready_items-requires
+rows_selected-ready_items-requires t c = (
+  search (rules, the_lemmas),
+  subst (λ (items : List SqlItem). All (IsTableOf c.args.tables.now) (flat_map item_tables items)) (sym c.as_slice.ensures) (named.query_items (IsTableOf c.args.tables.now) c.args.query.now c.requires),
+)
+
+pub query_rows-rows_selected-requires : goal.query_rows-rows_selected-requires
+query_rows-rows_selected-requires t c = (
+  search (rules, the_lemmas),
+  c.requires,
+)
