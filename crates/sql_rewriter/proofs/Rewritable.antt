@@ -3,6 +3,7 @@ use Rattle.std.proofs.Common.{◌≡◌, ◌∙◌, ◌≤◌, Option, Some, Non
 use Rattle.std.specs.List.{flat_map}
 use Rattle.std.specs.Prelude.{IfOk, Result}
 use Rattle.sql_tree.specs.Meaning.{answer_of}
+use Rattle.sql_tree.specs.WellFormed.{IsValid}
 use Rattle.sql_tree.specs.declared.tree.SqlQuery.{SqlQuery}
 use Rattle.written_query_meaning.specs.Meaning.{MeansAnswer}
 use Rattle.sql_rewriter.specs.Meant.{HasAnswerOf}
@@ -61,3 +62,10 @@ pub has_answer : {E : Type 0} (block : Block) (written : Result SqlQuery E) → 
 has_answer block written means is =
     ok_weaker (λ query. query ≡ rewritten block) (HasAnswerOf block) written
     (λ query same tables valid fits. ap (answer_of tables) same ∙ means tables valid fits) is
+
+-- and is valid, as the described query is
+pub is_valid : {E : Type 0} (block : Block) (written : Result SqlQuery E) → IsValid (rewritten block) → IfOk written (λ query. query ≡ rewritten block) → IfOk written IsValid
+is_valid block written valid is =
+    ok_weaker (λ query. query ≡ rewritten block) IsValid written (λ query same. subst IsValid (sym same) valid) is
+
+pub ruleset of_written = (has_answer, is_valid)

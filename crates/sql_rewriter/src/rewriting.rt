@@ -6,6 +6,7 @@ ghost use Rattle.conditions.specs.Meaning.{scalars_of};
 ghost use Rattle.query_meaning.specs.BlockFits.{IsPlace};
 ghost use Rattle.query_meaning.specs.declared.block.Output.{Output};
 ghost use Rattle.sql_rewriter.specs.Meant.{HasAnswerOf};
+ghost use Rattle.sql_tree.specs.WellFormed.{IsValid};
 ghost use Rattle.rewritten_query.specs.Columns.{used};
 ghost use Rattle.rewritten_query.specs.Conditions.{cond_put, conjunction};
 ghost use Rattle.rewritten_query.specs.Rankings.{admits_null, group_cond};
@@ -31,6 +32,7 @@ use query_meaning::{Block, FromTable};
 use sql_tree::{SqlCond, SqlFrom, SqlItem, SqlQuery, SqlSource};
 use std::alloc::Global;
 use written_query_meaning::means_answer;
+use written_query_validity::writes_valid;
 
 /// Whether the column at the place admits NULL.
 fn admits_null(from: &[FromTable], place: ColumnPlace) -> bool
@@ -242,16 +244,19 @@ fn described(alloc: Global, block: &Block) -> Result<SqlQuery, Memory>
     }
 }
 
-/// The SQL query that the block is written as. Over every set of tables that the block fits its answer is the block's.
+/// The SQL query that the block is written as. It is valid, and over every set of tables that the block fits its answer
+/// is the block's.
 ///
 /// Needs a valid block. The only refusal is want of memory. The form is that of Kießling and Köstler (Preference SQL,
 /// VLDB 2002): level columns and NOT EXISTS.
-#[tactic(auto, using(crate::proofs::Rewritable::has_answer))]
+#[tactic(auto, using(crate::proofs::Rewritable::of_written))]
 pub fn rewrite(alloc: Global, block: &Block) -> Result<SqlQuery, Memory>
     requires valid { IsValidBlock block.now }
     ensures written { IfOk result (λ query. query ≡ rewritten block.now) }
+    ensures valid { IfOk result IsValid }
     ensures meaning { IfOk result (HasAnswerOf block.now) }
 {
+    writes_valid(block);
     means_answer(block);
     described(alloc, block)
 }
