@@ -21,7 +21,7 @@ use Rattle.sql_tree.specs.declared.tree.SqlWhen.{SqlWhen}
 use Rattle.sql_tree.specs.declared.tree.SumTerm.{SumTerm}
 use Rattle.sql_tree.specs.declared.tree.SqlQuery.{SqlQuery, out-SqlQuery}
 use Rattle.sql_tree.specs.Fits.{Level, cond_step, scalar_step, source_step, from_step, item_step, query_step, when_step, term_step, if_written, tables_of}
-use Rattle.sql_exec.specs.Named.{cond_tables, scalar_tables, source_tables, from_tables, item_tables, when_tables, term_tables}
+use Rattle.sql_tree.specs.Fits.{cond_tables, scalar_tables, source_tables, from_tables, item_tables, when_tables, term_tables}
 
 of_And : (parts : List SqlCond) → cond_tables (And parts) ≡ flat_map cond_tables parts
 unfolding cond_tables scalar_tables source_tables from_tables item_tables when_tables term_tables tables_of

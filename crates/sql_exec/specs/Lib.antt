@@ -1,4 +1,3 @@
-pub mod Named
 pub mod Preparing
 pub mod Ready
 pub mod Seen

@@ -7,7 +7,7 @@ use Rattle.sql_tree.specs.declared.tree.SqlItem.{SqlItem}
 use Rattle.sql_tree.specs.declared.tree.SqlWhen.{SqlWhen}
 use Rattle.sql_tree.specs.declared.tree.SumTerm.{SumTerm}
 use Rattle.sql_tree.specs.Fits.{FitsTables, IsTableOf}
-use Rattle.sql_exec.specs.Named.{cond_tables, from_tables, item_tables, scalar_tables, term_tables, when_tables}
+use Rattle.sql_tree.specs.Fits.{cond_tables, from_tables, item_tables, scalar_tables, term_tables, when_tables}
 use Rattle.sql_exec.proofs.Named as named
 use Rattle.prefsql_values.specs.declared.value.Value.{Value}
 use Rattle.prefsql_tables.specs.declared.table.AnswerRow.{AnswerRow}
