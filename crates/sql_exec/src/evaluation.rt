@@ -99,7 +99,8 @@ fn sum<'t>(
     Ok(sum)
 }
 
-/// The sum of two values, which is NULL where one is NULL.
+/// The sum of two values, which is NULL where one is NULL. A sum past the range of a number, which the
+/// static bounds of a well-formed query leave no room for, is answered like want of memory.
 fn added<'t>(a: Cell<'t>, b: Cell<'t>) -> Result<Cell<'t>, Memory>
     ensures { IfOk result (λ cell. value_of cell ≡ added (value_of a.entry) (value_of b.entry)) }
 {
@@ -112,7 +113,8 @@ fn added<'t>(a: Cell<'t>, b: Cell<'t>) -> Result<Cell<'t>, Memory>
     }
 }
 
-/// The number with the other sign, and NULL for NULL.
+/// The number with the other sign, and NULL for NULL. The least number, which no value of a well-formed
+/// query is, is answered like want of memory.
 fn negative<'t>(cell: Cell<'t>) -> Result<Cell<'t>, Memory>
     ensures { IfOk result (λ negative. value_of negative ≡ signed true (value_of cell.entry)) }
 {
