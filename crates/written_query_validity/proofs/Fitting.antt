@@ -23,7 +23,7 @@ use Rattle.sql_tree.specs.declared.tree.SqlQuery.{SqlQuery}
 use Rattle.sql_tree.specs.declared.tree.SqlScalar.{SqlScalar}
 use Rattle.sql_tree.specs.declared.tree.SqlSource.{Derived}
 use Rattle.sql_tree.specs.declared.tree.SqlTable.{SqlTable}
-use Rattle.sql_tree.specs.Fits.{FitsTables, IsTableOf, if_written, tables_of}
+use Rattle.sql_tree.specs.Fits.{cond_tables, from_tables, item_tables, FitsTables, IsTableOf, if_written, tables_of}
 use Rattle.sql_tree.specs.Select.{select}
 use Rattle.prefsql_tables.specs.declared.place.SortKey.{SortKey}
 use Rattle.rewritten_query.specs.Columns.{auxiliary_items, code_items, leaf_items, number_among, rank_column, used, used_items}
@@ -33,7 +33,7 @@ use Rattle.rewritten_query.specs.Names.{candidates_name, of_tables, rival_name, 
 use Rattle.rewritten_query.specs.Rankings.{group_cond, ranking_of}
 use Rattle.rewritten_query.specs.Rewriting.{and_only, auxiliary_query, best_cond, best_query, only_cond, output_items, own_place, own_quality, plain_query, quality_of_tables, rewritten, rewritten_by, rival_conds, rivals_query, table_item, table_items, where_over_tables}
 use Rattle.written_query_validity.proofs.NamedParts.{InCond, InScalar, Only, better_in, both, both_in, code_in, column_in, conjunction_in, each, group_in, not_in, number_in, puts_in, rank_in, scalar_in}
-use Rattle.written_query_validity.proofs.TablesRead.{cond_tables, from_tables, from_tables_are, item_tables, item_tables_are, tables_each, tables-Derived, tables-Exists, tables-Table, tables-select}
+use Rattle.written_query_validity.proofs.TablesRead.{from_tables_are, item_tables_are, tables_each, tables-Derived, tables-Exists, tables-Table, tables-select}
 
 -- the table as FROM of the written query names it
 abbrev named : FromTable → SqlTable

@@ -29,14 +29,14 @@ use Rattle.sql_tree.specs.declared.tree.SqlPlace.{SqlPlace}
 use Rattle.sql_tree.specs.declared.tree.SqlTable.{SqlTable}
 use Rattle.sql_tree.specs.declared.tree.SqlWhen.{SqlWhen}
 use Rattle.sql_tree.specs.declared.tree.SumTerm.{SumTerm}
-use Rattle.sql_tree.specs.Fits.{if_written}
+use Rattle.sql_tree.specs.Fits.{cond_tables, scalar_tables, term_tables, when_tables, if_written}
 use Rattle.rewritten_query.specs.Conditions.{best_rank, cond_put, conjunction, scalar_put}
 use Rattle.rewritten_query.specs.Leaves.{cases, code_scalar, code_whens, greatest_level, is_among, less, level_when, level_whens, literal, number, rank_scalar, set_whens, values_of_level, when_so}
 use Rattle.rewritten_query.specs.Rankings.{Ranking, admits_null, code_part, code_parts, codes_where, group_cond, kind_better, leaf_ranking, of_candidate, of_rival, ranking_of, same_column}
 use Rattle.rewritten_query.specs.Columns.{number_among, rank_column}
 use Rattle.rewritten_query.proofs.ConditionReads.{put, put-And, put-Or, put-Not, put-Compare, put-Between, put-OneOf, put-IsNull, put-Top}
 use Rattle.rewritten_query.proofs.RankingReads.{better-Pareto, better-Prior, ranking_of-Leaf, same-Pareto, same-Prior}
-use Rattle.written_query_validity.proofs.TablesRead.{cond_tables, scalar_tables, tables_each, tables-And, tables-Or, tables-Not, tables-Compare, tables-Between, tables-OneOf, tables-IsNull, tables-Column, tables-Number, tables-Chars, tables-Sum, tables-Case, term_tables, term_tables_are, when_tables, when_tables_are}
+use Rattle.written_query_validity.proofs.TablesRead.{tables_each, tables-And, tables-Or, tables-Not, tables-Compare, tables-Between, tables-OneOf, tables-IsNull, tables-Column, tables-Number, tables-Chars, tables-Sum, tables-Case, term_tables_are, when_tables_are}
 
 module _ (G : SqlTable → Type 0) where
   -- it holds of each table of the list

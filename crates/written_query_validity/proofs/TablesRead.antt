@@ -4,42 +4,21 @@ use Rattle.std.specs.List.{flat_map}
 use Rattle.std.specs.Option.{option_map}
 use Rattle.prefsql_values.specs.declared.value.CompareOp.{CompareOp}
 use Rattle.prefsql_tables.specs.declared.place.SortKey.{SortKey}
-use Rattle.sql_tree.specs.declared.tree.SqlCond.{SqlCond, And, Or, Not, Compare, Between, OneOf, IsNull, Exists, fold-SqlCond}
+use Rattle.sql_tree.specs.declared.tree.SqlCond.{SqlCond, And, Or, Not, Compare, Between, OneOf, IsNull, Exists}
 use Rattle.sql_tree.specs.declared.tree.SqlCond.TheFolds.{the_lemmas, fold-roll-SqlScalar, fold-roll-SqlQuery}
 use Rattle.sql_tree.specs.declared.tree.SqlCond.TheOpen.{SqlScalar-F}
 use Rattle.sql_tree.specs.declared.tree.SqlCond.TheViews.{rolls-Case}
-use Rattle.sql_tree.specs.declared.tree.SqlScalar.{SqlScalar, Column, Number, Chars, Sum, Case, fold-SqlScalar}
+use Rattle.sql_tree.specs.declared.tree.SqlScalar.{SqlScalar, Column, Number, Chars, Sum, Case}
 use Rattle.sql_tree.specs.declared.tree.SqlPlace.{SqlPlace}
 use Rattle.sql_tree.specs.declared.tree.SqlTable.{SqlTable}
-use Rattle.sql_tree.specs.declared.tree.SqlSource.{SqlSource, Table, Derived, fold-SqlSource}
-use Rattle.sql_tree.specs.declared.tree.SqlFrom.{SqlFrom, fold-SqlFrom}
-use Rattle.sql_tree.specs.declared.tree.SqlItem.{SqlItem, fold-SqlItem}
+use Rattle.sql_tree.specs.declared.tree.SqlSource.{Table, Derived}
+use Rattle.sql_tree.specs.declared.tree.SqlFrom.{SqlFrom}
+use Rattle.sql_tree.specs.declared.tree.SqlItem.{SqlItem}
 use Rattle.sql_tree.specs.declared.tree.SqlQuery.{SqlQuery}
-use Rattle.sql_tree.specs.declared.tree.SumTerm.{SumTerm, fold-SumTerm}
-use Rattle.sql_tree.specs.declared.tree.SqlWhen.{SqlWhen, fold-SqlWhen}
-use Rattle.sql_tree.specs.Fits.{tables_of, if_written, cond_step, scalar_step, source_step, from_step, item_step, query_step, when_step, term_step}
+use Rattle.sql_tree.specs.declared.tree.SumTerm.{SumTerm}
+use Rattle.sql_tree.specs.declared.tree.SqlWhen.{SqlWhen}
+use Rattle.sql_tree.specs.Fits.{cond_tables, scalar_tables, source_tables, from_tables, item_tables, when_tables, term_tables, tables_of, if_written, cond_step, scalar_step, source_step, from_step, item_step, query_step, when_step, term_step}
 use Rattle.sql_tree.specs.Select.{select}
-
-unfoldable pub cond_tables : SqlCond → List SqlTable
-cond_tables = fold-SqlCond _ _ _ _ _ _ _ _ cond_step scalar_step source_step from_step item_step query_step when_step term_step
-
-unfoldable pub scalar_tables : SqlScalar → List SqlTable
-scalar_tables = fold-SqlScalar _ _ _ _ _ _ _ _ cond_step scalar_step source_step from_step item_step query_step when_step term_step
-
-unfoldable pub source_tables : SqlSource → List SqlTable
-source_tables = fold-SqlSource _ _ _ _ _ _ _ _ cond_step scalar_step source_step from_step item_step query_step when_step term_step
-
-unfoldable pub from_tables : SqlFrom → List SqlTable
-from_tables = fold-SqlFrom _ _ _ _ _ _ _ _ cond_step scalar_step source_step from_step item_step query_step when_step term_step
-
-unfoldable pub item_tables : SqlItem → List SqlTable
-item_tables = fold-SqlItem _ _ _ _ _ _ _ _ cond_step scalar_step source_step from_step item_step query_step when_step term_step
-
-unfoldable pub when_tables : SqlWhen → List SqlTable
-when_tables = fold-SqlWhen _ _ _ _ _ _ _ _ cond_step scalar_step source_step from_step item_step query_step when_step term_step
-
-unfoldable pub term_tables : SumTerm → List SqlTable
-term_tables = fold-SumTerm _ _ _ _ _ _ _ _ cond_step scalar_step source_step from_step item_step query_step when_step term_step
 
 -- those of each of the parts, one after the other
 abbrev pub tables_each : {X : Type 0} → (X → List SqlTable) → List X → List SqlTable
