@@ -11,7 +11,7 @@ use Rattle.prefsql_values.specs.declared.value.Domain.{Domain}
 use Rattle.prefsql_values.specs.declared.value.Domain.TheVariants.{Integer}
 use Rattle.prefsql_tables.specs.declared.place.SortKey.{SortKey}
 use Rattle.prefsql_tables.specs.Names.{names_of}
-use Rattle.sql_tree.specs.Fits.{tables_of, if_written}
+use Rattle.sql_tree.specs.Fits.{cond_tables, scalar_tables, source_tables, from_tables, item_tables, when_tables, term_tables, tables_of, if_written}
 use Rattle.sql_tree.specs.Shown.{View, ShownItem, ShownColumn, table_columns}
 use Rattle.sql_tree.specs.WellFormed.{JudgedScalar, JudgedWhen, JudgedTerm, JudgedItem, JudgedFrom, JudgedSource, JudgedQuery, agrees, domain_eq, is_term, is_bounded, is_when, is_otherwise, judged_sum, judged_at, result_shapes, first_is_plus, term_shapes, is_name, all_differ, filter_well}
 use Rattle.sql_tree.specs.Shown as shown
@@ -33,7 +33,7 @@ use Rattle.sql_read_back.proofs.Writable.{FineScalar, FineTerm, FineItem, FineFr
 use Rattle.sql_read_back.proofs.FineEquations.{fine-And, fine-Or, fine-Not, fine-Compare, fine-Between, fine-OneOf, fine-IsNull, fine-Exists, fine-Column, fine-Number, fine-Chars, fine-Sum, fine-Case, fine_term_is, fine_when_is, fine_item_is, fine_from_is, fine-Table, fine-Derived, fine_names, fine_query_is}
 use Rattle.sql_read_back.proofs.Judged.{judged_cond, judged_scalar, judged_query, judged_source, judged_from, judged_item, judged_when, judged_term}
 use Rattle.sql_read_back.proofs.JudgedEquations.{judged-And, judged-Or, judged-Not, judged-Compare, judged-Between, judged-OneOf, judged-IsNull, judged-Exists, judged-Column, judged-Number, judged-Chars, judged-Sum, judged-Case, judged_term_is, judged_when_is, judged_item_is, judged_from_is, judged-Table, judged-Derived, judged_parts, judged_query_is, own_items}
-use Rattle.sql_read_back.proofs.TablesNamed.{tables_cond, tables_scalar, tables_source, tables_from, tables_item, tables_when, tables_term, tables-And, tables-Or, tables-Not, tables-Compare, tables-Between, tables-OneOf, tables-IsNull, tables-Exists, tables-Sum, tables-Case, tables-Table, tables-Derived, tables_from_is, tables_item_is, tables_when_is, tables_term_is, tables_query_is}
+use Rattle.sql_read_back.proofs.TablesNamed.{tables-And, tables-Or, tables-Not, tables-Compare, tables-Between, tables-OneOf, tables-IsNull, tables-Exists, tables-Sum, tables-Case, tables-Table, tables-Derived, tables_from_is, tables_item_is, tables_when_is, tables_term_is, tables_query_is}
 use Rattle.sql_read_back.proofs.NamesShown.{item_of, shown_names, written_items, fine_names_are, table_names}
 use Rattle.sql_read_back.proofs.ToldColumns.{IsFineView, item_named, IsFound, told_found}
 
@@ -54,18 +54,18 @@ module _ (ok : SqlTable → Bool) where
   passed is e = ap (list_all ok) (sym is) ∙ e
 
   abbrev PC : SqlCond → Type 0
-  PC c = (view : View) → IsFineView view → judged_cond c view ≡ true → list_all ok (tables_cond c) ≡ true → (fine_cond ok) c (view_names view) ≡ true
+  PC c = (view : View) → IsFineView view → judged_cond c view ≡ true → list_all ok (cond_tables c) ≡ true → (fine_cond ok) c (view_names view) ≡ true
 
   pub record ScalarTold (s : SqlScalar) : Type 0 where
     pub is_sum : (names : Names) (view : View) → ((fine_scalar ok) s names).is_sum ≡ (judged_scalar s view).is_sum
-    pub fine : (view : View) → IsFineView view → (judged_scalar s view).well ≡ true → list_all ok (tables_scalar s) ≡ true → ((fine_scalar ok) s (view_names view)).fine ≡ true
+    pub fine : (view : View) → IsFineView view → (judged_scalar s view).well ≡ true → list_all ok (scalar_tables s) ≡ true → ((fine_scalar ok) s (view_names view)).fine ≡ true
 
   abbrev PS : SqlScalar → Type 0
   PS s = ScalarTold s
 
   pub record SourceTold (s : SqlSource) : Type 0 where
     pub columns : (judged_source s).well ≡ true → list_all is_name (shown_names (judged_source s).columns) ≡ true
-    pub fine : (judged_source s).well ≡ true → list_all ok (tables_source s) ≡ true → ((fine_source ok) s).fine ≡ true
+    pub fine : (judged_source s).well ≡ true → list_all ok (source_tables s) ≡ true → ((fine_source ok) s).fine ≡ true
 
   abbrev PO : SqlSource → Type 0
   PO s = SourceTold s
@@ -119,20 +119,20 @@ module _ (ok : SqlTable → Bool) where
 
   -- ---- conditions
 
-  conds : (view : View) → IsFineView view → (parts : List C) → list_all (λ (part : View → Bool). part view) (map judged_cond (map (λ e. e.0) parts)) ≡ true → list_all ok (flat_map (λ below. below) (map tables_cond (map (λ e. e.0) parts))) ≡ true →
+  conds : (view : View) → IsFineView view → (parts : List C) → list_all (λ (part : View → Bool). part view) (map judged_cond (map (λ e. e.0) parts)) ≡ true → list_all ok (flat_map (λ below. below) (map cond_tables (map (λ e. e.0) parts))) ≡ true →
       list_all (λ (part : Names → Bool). part (view_names view)) (map (fine_cond ok) (map (λ e. e.0) parts)) ≡ true
   conds view fine [] well passes = refl
   conds view fine (p ∷ parts) well passes =
       let ps : List SqlCond = map (λ e. e.0) parts in
       let w = and_parts (judged_cond p.0 view) (list_all (λ (part : View → Bool). part view) (map judged_cond ps)) well in
-      let t = both_ok (tables_cond p.0) (flat_map (λ below. below) (map tables_cond ps)) passes in
+      let t = both_ok (cond_tables p.0) (flat_map (λ below. below) (map cond_tables ps)) passes in
       and_from ((fine_cond ok) p.0 (view_names view)) (list_all (λ (part : Names → Bool). part (view_names view)) (map (fine_cond ok) ps)) (p.1 view fine w.0 t.0) (conds view fine parts w.1 t.1)
 
   two_still : (ps : List SqlCond) → nat_le 2 (length (map judged_cond ps)) ≡ true → nat_le 2 (length (map (fine_cond ok) ps)) ≡ true
   two_still ps e = ap (nat_le 2) (same_length (fine_cond ok) judged_cond ps) ∙ e
 
   chain : (view : View) → IsFineView view → (parts : List C) → nat_le 2 (length (map judged_cond (map (λ e. e.0) parts))) && list_all (λ (part : View → Bool). part view) (map judged_cond (map (λ e. e.0) parts)) ≡ true →
-      list_all ok (flat_map (λ below. below) (map tables_cond (map (λ e. e.0) parts))) ≡ true →
+      list_all ok (flat_map (λ below. below) (map cond_tables (map (λ e. e.0) parts))) ≡ true →
       nat_le 2 (length (map (fine_cond ok) (map (λ e. e.0) parts))) && list_all (λ (part : Names → Bool). part (view_names view)) (map (fine_cond ok) (map (λ e. e.0) parts)) ≡ true
   chain view fine parts well passes =
       let ps : List SqlCond = map (λ e. e.0) parts in
@@ -160,7 +160,7 @@ module _ (ok : SqlTable → Bool) where
   compare_case : (op : CompareOp) (a b : S) → PC (roll-SqlCond (SqlCond-F.Compare op a.0 b.0))
   compare_case op a b view fine well passes =
       let w = and_parts (judged_scalar a.0 view).well (agrees (judged_scalar a.0 view) (judged_scalar b.0 view)) (sym (judged-Compare op a.0 b.0 view) ∙ well) in
-      let t = both_ok (tables_scalar a.0) (tables_scalar b.0) (passed (tables-Compare op a.0 b.0) passes) in
+      let t = both_ok (scalar_tables a.0) (scalar_tables b.0) (passed (tables-Compare op a.0 b.0) passes) in
       fine-Compare ok op a.0 b.0 (view_names view)
       ∙ and_from ((fine_scalar ok) a.0 (view_names view)).fine ((fine_scalar ok) b.0 (view_names view)).fine (a.1.fine view fine w.0 t.0) (b.1.fine view fine (other_well view a.0 b.0 w.1) t.1)
 
@@ -169,19 +169,19 @@ module _ (ok : SqlTable → Bool) where
       let names = view_names view in
       let w = and_parts ((judged_scalar a.0 view).well && agrees (judged_scalar a.0 view) (judged_scalar low.0 view)) (agrees (judged_scalar a.0 view) (judged_scalar high.0 view)) (sym (judged-Between negated a.0 low.0 high.0 view) ∙ well) in
       let v = and_parts (judged_scalar a.0 view).well (agrees (judged_scalar a.0 view) (judged_scalar low.0 view)) w.0 in
-      let t = both_ok (tables_scalar a.0 ++ tables_scalar low.0) (tables_scalar high.0) (passed (tables-Between negated a.0 low.0 high.0) passes) in
-      let u = both_ok (tables_scalar a.0) (tables_scalar low.0) t.0 in
+      let t = both_ok (scalar_tables a.0 ++ scalar_tables low.0) (scalar_tables high.0) (passed (tables-Between negated a.0 low.0 high.0) passes) in
+      let u = both_ok (scalar_tables a.0) (scalar_tables low.0) t.0 in
       fine-Between ok negated a.0 low.0 high.0 names
       ∙ and_from ((fine_scalar ok) a.0 names).fine (((fine_scalar ok) low.0 names).fine && ((fine_scalar ok) high.0 names).fine) (a.1.fine view fine v.0 u.0)
       (and_from ((fine_scalar ok) low.0 names).fine ((fine_scalar ok) high.0 names).fine (low.1.fine view fine (other_well view a.0 low.0 v.1) u.1) (high.1.fine view fine (other_well view a.0 high.0 w.1) t.1))
 
   listed_fine : (view : View) → IsFineView view → (a : SqlScalar) (list : List S) → list_all (λ (b : View → JudgedScalar). agrees (judged_scalar a view) (b view)) (map judged_scalar (map (λ e. e.0) list)) ≡ true →
-      list_all ok (flat_map (λ below. below) (map tables_scalar (map (λ e. e.0) list))) ≡ true → list_all (λ (b : Names → FineScalar). (b (view_names view)).fine) (map (fine_scalar ok) (map (λ e. e.0) list)) ≡ true
+      list_all ok (flat_map (λ below. below) (map scalar_tables (map (λ e. e.0) list))) ≡ true → list_all (λ (b : Names → FineScalar). (b (view_names view)).fine) (map (fine_scalar ok) (map (λ e. e.0) list)) ≡ true
   listed_fine view fine a [] well passes = refl
   listed_fine view fine a (b ∷ list) well passes =
       let bs : List SqlScalar = map (λ e. e.0) list in
       let w = and_parts (agrees (judged_scalar a view) (judged_scalar b.0 view)) (list_all (λ (b : View → JudgedScalar). agrees (judged_scalar a view) (b view)) (map judged_scalar bs)) well in
-      let t = both_ok (tables_scalar b.0) (flat_map (λ below. below) (map tables_scalar bs)) passes in
+      let t = both_ok (scalar_tables b.0) (flat_map (λ below. below) (map scalar_tables bs)) passes in
       and_from ((fine_scalar ok) b.0 (view_names view)).fine (list_all (λ (b : Names → FineScalar). (b (view_names view)).fine) (map (fine_scalar ok) bs)) (b.1.fine view fine (other_well view a b.0 w.0) t.0) (listed_fine view fine a list w.1 t.1)
 
   member_case : (negated : Bool) (a : S) (list : List S) → PC (roll-SqlCond (SqlCond-F.OneOf negated a.0 (map (λ e. e.0) list)))
@@ -190,7 +190,7 @@ module _ (ok : SqlTable → Bool) where
       let bs : List SqlScalar = map (λ e. e.0) list in
       let w = and_parts ((judged_scalar a.0 view).well && nat_le 1 (length (map judged_scalar bs))) (list_all (λ (b : View → JudgedScalar). agrees (judged_scalar a.0 view) (b view)) (map judged_scalar bs)) (sym (judged-OneOf negated a.0 bs view) ∙ well) in
       let v = and_parts (judged_scalar a.0 view).well (nat_le 1 (length (map judged_scalar bs))) w.0 in
-      let t = both_ok (tables_scalar a.0) (flat_map (λ below. below) (map tables_scalar bs)) (passed (tables-OneOf negated a.0 bs) passes) in
+      let t = both_ok (scalar_tables a.0) (flat_map (λ below. below) (map scalar_tables bs)) (passed (tables-OneOf negated a.0 bs) passes) in
       let some : nat_le 1 (length (map (fine_scalar ok) bs)) ≡ true = ap (nat_le 1) (same_length (fine_scalar ok) judged_scalar bs) ∙ v.1 in
       let all = listed_fine view fine a.0 list w.1 t.1 in
       let each = list_all (λ (b : Names → FineScalar). (b names).fine) (map (fine_scalar ok) bs) in
@@ -237,14 +237,14 @@ module _ (ok : SqlTable → Bool) where
   abbrev fine_terms : Names → List SumTerm → List FineTerm
   fine_terms names xs = map (λ (term : Names → FineTerm). term names) (map (fine_term ok) xs)
 
-  terms_told : (view : View) → IsFineView view → (ts : List T) → list_all is_term (judged_terms view (map (λ e. e.0) ts)) ≡ true → list_all ok (flat_map (λ below. below) (map tables_term (map (λ e. e.0) ts))) ≡ true →
+  terms_told : (view : View) → IsFineView view → (ts : List T) → list_all is_term (judged_terms view (map (λ e. e.0) ts)) ≡ true → list_all ok (flat_map (λ below. below) (map term_tables (map (λ e. e.0) ts))) ≡ true →
       list_all is_fine_term (fine_terms (view_names view) (map (λ e. e.0) ts)) ≡ true
   terms_told view fine [] well passes = refl
   terms_told view fine (t ∷ ts) well passes =
       let names = view_names view in
       let xs : List SumTerm = map (λ e. e.0) ts in
       let w = and_parts (is_term (judged_term t.0 view)) (list_all is_term (judged_terms view xs)) well in
-      let p = both_ok (tables_term t.0) (flat_map (λ below. below) (map tables_term xs)) passes in
+      let p = both_ok (term_tables t.0) (flat_map (λ below. below) (map term_tables xs)) passes in
       let s = judged_scalar t.0.scalar view in
       let one : (s.well && domain_eq s.shape.domain Integer) && not s.is_sum ≡ true = sym (ap is_term (judged_term_is t.0 view)) ∙ w.0 in
       let v = and_parts (s.well && domain_eq s.shape.domain Integer) (not s.is_sum) one in
@@ -255,7 +255,7 @@ module _ (ok : SqlTable → Bool) where
       (ap is_fine_term (fine_term_is ok t.0 names) ∙ and_from ((fine_scalar ok) t.0.scalar names).fine (not ((fine_scalar ok) t.0.scalar names).is_sum) good plain)
       (terms_told view fine ts w.1 p.1)
 
-  sum_fine : (ts : List T) (view : View) → IsFineView view → (judged_sum (judged_terms view (map (λ e. e.0) ts))).well ≡ true → list_all ok (flat_map (λ below. below) (map tables_term (map (λ e. e.0) ts))) ≡ true →
+  sum_fine : (ts : List T) (view : View) → IsFineView view → (judged_sum (judged_terms view (map (λ e. e.0) ts))).well ≡ true → list_all ok (flat_map (λ below. below) (map term_tables (map (λ e. e.0) ts))) ≡ true →
       are_terms (fine_terms (view_names view) (map (λ e. e.0) ts)) ≡ true
   sum_fine [] view fine well passes = absurd (false≢true well)
   sum_fine (t ∷ []) view fine well passes = absurd (false≢true well)
@@ -285,15 +285,15 @@ module _ (ok : SqlTable → Bool) where
   abbrev judged_whens : View → List SqlWhen → List JudgedWhen
   judged_whens view xs = map (λ (w : View → JudgedWhen). w view) (map judged_when xs)
 
-  whens_told : (view : View) → IsFineView view → (d : Domain) (ws : List W) → list_all (is_when d) (judged_whens view (map (λ e. e.0) ws)) ≡ true → list_all ok (flat_map (λ below. below) (map tables_when (map (λ e. e.0) ws))) ≡ true →
+  whens_told : (view : View) → IsFineView view → (d : Domain) (ws : List W) → list_all (is_when d) (judged_whens view (map (λ e. e.0) ws)) ≡ true → list_all ok (flat_map (λ below. below) (map when_tables (map (λ e. e.0) ws))) ≡ true →
       list_all (λ (when : Names → Bool). when (view_names view)) (map (fine_when ok) (map (λ e. e.0) ws)) ≡ true
   whens_told view fine d [] well passes = refl
   whens_told view fine d (w ∷ ws) well passes =
       let names = view_names view in
       let xs : List SqlWhen = map (λ e. e.0) ws in
       let p = and_parts (is_when d (judged_when w.0 view)) (list_all (is_when d) (judged_whens view xs)) well in
-      let t = both_ok (tables_when w.0) (flat_map (λ below. below) (map tables_when xs)) passes in
-      let u = both_ok (tables_cond w.0.cond) (tables_scalar w.0.value) (passed (tables_when_is w.0) t.0) in
+      let t = both_ok (when_tables w.0) (flat_map (λ below. below) (map when_tables xs)) passes in
+      let u = both_ok (cond_tables w.0.cond) (scalar_tables w.0.value) (passed (tables_when_is w.0) t.0) in
       let c = judged_cond w.0.cond view in
       let s = judged_scalar w.0.value view in
       let one : (c && s.well) && domain_eq d s.shape.domain ≡ true = sym (ap (is_when d) (judged_when_is w.0 view)) ∙ p.0 in
@@ -303,7 +303,7 @@ module _ (ok : SqlTable → Bool) where
       (fine_when_is ok w.0 names ∙ and_from ((fine_cond ok) w.0.cond names) ((fine_scalar ok) w.0.value names).fine (w.1.cond view fine r.0 u.0) (w.1.value.fine view fine r.1 u.1))
       (whens_told view fine d ws p.1 t.1)
 
-  else_told : (view : View) → IsFineView view → (d : Domain) (last : Option S) → is_otherwise d (judged_at view (option_map judged_scalar (option_map (λ e. e.0) last))) ≡ true → list_all ok (if_written (option_map tables_scalar (option_map (λ e. e.0) last))) ≡ true →
+  else_told : (view : View) → IsFineView view → (d : Domain) (last : Option S) → is_otherwise d (judged_at view (option_map judged_scalar (option_map (λ e. e.0) last))) ≡ true → list_all ok (if_written (option_map scalar_tables (option_map (λ e. e.0) last))) ≡ true →
       last_fine (option_map (fine_scalar ok) (option_map (λ e. e.0) last)) (view_names view) ≡ true
   else_told view fine d None well passes = refl
   else_told view fine d (Some v) well passes = v.1.fine view fine (and_parts (judged_scalar v.0 view).well (domain_eq d (judged_scalar v.0 view).shape.domain) well).0 passes
@@ -322,7 +322,7 @@ module _ (ok : SqlTable → Bool) where
             let e : (nat_le 1 (length js) && list_all (is_when d) js) && is_otherwise d o ≡ true = sym (ap (λ (k : JudgedScalar). k.well) (judged-Case xs l view)) ∙ well in
             let p = and_parts (nat_le 1 (length js) && list_all (is_when d) js) (is_otherwise d o) e in
             let q = and_parts (nat_le 1 (length js)) (list_all (is_when d) js) p.0 in
-            let t = both_ok (flat_map (λ below. below) (map tables_when xs)) (if_written (option_map tables_scalar l)) (passed (tables-Case xs l) passes) in
+            let t = both_ok (flat_map (λ below. below) (map when_tables xs)) (if_written (option_map scalar_tables l)) (passed (tables-Case xs l) passes) in
             let same : length (map (fine_when ok) xs) ≡ length js = same_length (fine_when ok) judged_when xs ∙ sym (length-map (map judged_when xs) (λ (w : View → JudgedWhen). w view)) in
             let some : nat_le 1 (length (map (fine_when ok) xs)) ≡ true = ap (nat_le 1) same ∙ q.0 in
             let all = list_all (λ (when : Names → Bool). when names) (map (fine_when ok) xs) in
@@ -367,14 +367,14 @@ module _ (ok : SqlTable → Bool) where
       (ap (λ (k : JudgedFrom). item_named k.item) (judged_from_is f.0) ∙ and_from (is_name f.0.name) (list_all is_name (shown_names (judged_source f.0.source).columns)) q.0 (f.1.columns q.1))
       (froms_named fs p.1)
 
-  froms_told : (fs : List F) → list_all (λ (f : JudgedFrom). f.well) (map judged_from (map (λ e. e.0) fs)) ≡ true → list_all ok (flat_map (λ below. below) (map tables_from (map (λ e. e.0) fs))) ≡ true →
+  froms_told : (fs : List F) → list_all (λ (f : JudgedFrom). f.well) (map judged_from (map (λ e. e.0) fs)) ≡ true → list_all ok (flat_map (λ below. below) (map from_tables (map (λ e. e.0) fs))) ≡ true →
       list_all (λ (f : FineFrom). f.fine) (map (fine_from ok) (map (λ e. e.0) fs)) ≡ true
   froms_told [] well passes = refl
   froms_told (f ∷ fs) well passes =
       let gs : List SqlFrom = map (λ e. e.0) fs in
       let p = and_parts (judged_from f.0).well (list_all (λ (f : JudgedFrom). f.well) (map judged_from gs)) well in
       let q = and_parts (is_name f.0.name) (judged_source f.0.source).well (sym (ap (λ (k : JudgedFrom). k.well) (judged_from_is f.0)) ∙ p.0) in
-      let t = both_ok (tables_from f.0) (flat_map (λ below. below) (map tables_from gs)) passes in
+      let t = both_ok (from_tables f.0) (flat_map (λ below. below) (map from_tables gs)) passes in
       and_from ((fine_from ok) f.0).fine (list_all (λ (f : FineFrom). f.fine) (map (fine_from ok) gs))
       (fine_from_is ok f.0 ∙ and_from (is_name f.0.name) ((fine_source ok) f.0.source).fine q.0 (f.1.fine q.1 (passed (tables_from_is f.0) t.0)))
       (froms_told fs p.1 t.1)
@@ -390,7 +390,7 @@ module _ (ok : SqlTable → Bool) where
       and_from (is_name (judged_item i view).column.name) (list_all is_name (shown_names (map (λ (item : JudgedItem). item.column) (judged_items view is))))
       (ap (λ (k : JudgedItem). is_name k.column.name) (judged_item_is i view) ∙ q.0) (items_named view is p.1)
 
-  items_told : (view : View) → IsFineView view → (is : List I) → list_all (λ (item : JudgedItem). item.well) (judged_items view (map (λ e. e.0) is)) ≡ true → list_all ok (flat_map (λ below. below) (map tables_item (map (λ e. e.0) is))) ≡ true →
+  items_told : (view : View) → IsFineView view → (is : List I) → list_all (λ (item : JudgedItem). item.well) (judged_items view (map (λ e. e.0) is)) ≡ true → list_all ok (flat_map (λ below. below) (map item_tables (map (λ e. e.0) is))) ≡ true →
       list_all (λ (item : FineItem). item.fine (view_names view)) (map (fine_item ok) (map (λ e. e.0) is)) ≡ true
   items_told view fine [] well passes = refl
   items_told view fine (i ∷ is) well passes =
@@ -398,12 +398,12 @@ module _ (ok : SqlTable → Bool) where
       let js : List SqlItem = map (λ e. e.0) is in
       let p = and_parts (judged_item i.0 view).well (list_all (λ (item : JudgedItem). item.well) (judged_items view js)) well in
       let q = and_parts (is_name i.0.name) (judged_scalar i.0.value view).well (sym (ap (λ (k : JudgedItem). k.well) (judged_item_is i.0 view)) ∙ p.0) in
-      let t = both_ok (tables_item i.0) (flat_map (λ below. below) (map tables_item js)) passes in
+      let t = both_ok (item_tables i.0) (flat_map (λ below. below) (map item_tables js)) passes in
       and_from (((fine_item ok) i.0).fine names) (list_all (λ (item : FineItem). item.fine names) (map (fine_item ok) js))
       (fine_item_is ok i.0 names ∙ and_from (is_name i.0.name) ((fine_scalar ok) i.0.value names).fine q.0 (i.1.fine view fine q.1 (passed (tables_item_is i.0) t.0)))
       (items_told view fine is p.1 t.1)
 
-  filter_told : (view : View) → IsFineView view → (c : Option C) → filter_well (option_map judged_cond (option_map (λ e. e.0) c)) view ≡ true → list_all ok (if_written (option_map tables_cond (option_map (λ e. e.0) c))) ≡ true →
+  filter_told : (view : View) → IsFineView view → (c : Option C) → filter_well (option_map judged_cond (option_map (λ e. e.0) c)) view ≡ true → list_all ok (if_written (option_map cond_tables (option_map (λ e. e.0) c))) ≡ true →
       filter_fine (option_map (fine_cond ok) (option_map (λ e. e.0) c)) (view_names view) ≡ true
   filter_told view fine None well passes = refl
   filter_told view fine (Some c) well passes = c.1 view fine well passes
@@ -450,8 +450,8 @@ module _ (ok : SqlTable → Bool) where
             let p = parts round well in
             let view : View = own_items froms ∷ round in
             let inside : IsFineView view = (record { named = froms_named fs p.froms; differ = p.differ }, fine) in
-            let t = both_ok (flat_map (λ below. below) (map tables_item items) ++ flat_map (λ below. below) (map tables_from froms)) (if_written (option_map tables_cond filter)) (passed (tables_query_is d items froms filter order) passes) in
-            let u = both_ok (flat_map (λ below. below) (map tables_item items)) (flat_map (λ below. below) (map tables_from froms)) t.0 in
+            let t = both_ok (flat_map (λ below. below) (map item_tables items) ++ flat_map (λ below. below) (map from_tables froms)) (if_written (option_map cond_tables filter)) (passed (tables_query_is d items froms filter order) passes) in
+            let u = both_ok (flat_map (λ below. below) (map item_tables items)) (flat_map (λ below. below) (map from_tables froms)) t.0 in
             let names = fine_names ok froms (view_names round) in
             let same : names ≡ view_names view = fine_names_are ok froms (view_names round) ∙ ap (λ ns. ns ∷ view_names round) (sym (written_items froms)) in
             let long : length (map (fine_item ok) items) ≡ length (judged_items view items) = same_length (fine_item ok) judged_item items ∙ sym (length-map (map judged_item items) (λ (item : View → JudgedItem). item view)) in
