@@ -11,7 +11,7 @@ use Rattle.prefsql_session.specs.declared.command.TableWord.{TableWord}
 use Rattle.prefsql_session.specs.declared.command.Task.{Task}
 use Rattle.prefsql_session.specs.declared.command.Task.TheVariants.{Answer, Show}
 use Rattle.prefsql_session.specs.declared.command.Shown.{Shown}
-use Rattle.prefsql_session.specs.declared.command.Shown.TheVariants.{Plan, Query}
+use Rattle.prefsql_session.specs.declared.command.Shown.TheVariants.{Plan, Query, Executed}
 
 -- what each item gives, where each gives something
 abbrev pub each : {X Y : Type 0} → (X → Option Y) → List X → Option (List Y)
@@ -41,6 +41,7 @@ abbrev pub shown_of : List ℕ → Option Shown
 shown_of name =
     if bytes_eq name (codes "explain") then Some Plan
     else if bytes_eq name (codes "rewrite") then Some Query
+    else if bytes_eq name (codes "via") then Some Executed
     else None
 
 -- what is written of each statement, by the name of the command and by whether `--stats` stands

@@ -15,14 +15,15 @@ use Rattle.table_csv.specs.AnswerText.{text_of_answer}
 use Rattle.prefsql_session.specs.declared.command.Task.{Task}
 use Rattle.prefsql_session.specs.declared.command.Task.TheVariants.{Answer, Show}
 use Rattle.prefsql_session.specs.declared.command.Shown.{Shown}
-use Rattle.prefsql_session.specs.declared.command.Shown.TheVariants.{Plan, Query}
+use Rattle.prefsql_session.specs.declared.command.Shown.TheVariants.{Plan, Query, Executed}
 use Rattle.prefsql_session.specs.declared.work.Work.{Work}
 use Rattle.prefsql_session.specs.declared.work.Work.TheVariants.{Bench, Statements}
 
--- what is shown of a statement: its plan, or its SQL query
+-- what is shown of a statement: its plan, its SQL query, or the answer, to which that query comes
 abbrev pub shown_text : Shown → Tables → Block → List ℕ
 shown_text Plan tables block = plan_text block (block_plan block)
 shown_text Query tables block = sql.text_of (rewritten block)
+shown_text Executed tables block = text_of_answer (answer_of tables block)
 
 -- what the task asks of a statement as text
 abbrev pub statement_text : Task → Tables → Block → List ℕ

@@ -23,6 +23,8 @@ pub(crate) enum Shown {
     Plan,
     /// Its query in SQL-92.
     Query,
+    /// The answer of that query.
+    Executed,
 }
 
 /// What the words of a command line ask for.

@@ -25,6 +25,7 @@ fn shown_of(name: &str) -> Option<Shown>
     match name {
         "explain" => Some(Shown::Plan),
         "rewrite" => Some(Shown::Query),
+        "via" => Some(Shown::Executed),
         _ => None,
     }
 }

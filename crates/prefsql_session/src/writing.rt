@@ -6,9 +6,11 @@ ghost use Rattle.prefsql_io.specs.Counts.{HasCause};
 ghost use Rattle.prefsql_io.specs.Streams.{AppendsLess};
 ghost use Rattle.plan_algebra.specs.PlanText.{plan_text};
 ghost use Rattle.plan_stages.specs.Stages.{block_plan};
+ghost use Rattle.query_meaning.specs.Answers.{answer_of};
 ghost use Rattle.query_meaning.specs.Valid.{IsValidBlock};
 ghost use Rattle.rewritten_query.specs.Rewriting.{rewritten};
 ghost use Rattle.sql_text.specs.Text as sql;
+ghost use Rattle.table_csv.specs.AnswerText.{text_of_answer};
 ghost use Rattle.prefsql_bench.specs.BenchTable.{bench_set};
 ghost use Rattle.prefsql_bench.specs.Statements.{bench_blocks};
 ghost use Rattle.prefsql_bench.specs.Summary.{bench_summary};
@@ -28,10 +30,13 @@ use prefsql_io::{Sink, write_all};
 use prefsql_tables::TableSet;
 use prefsql_values::{Memory, Steps};
 use query_meaning::Block;
+use sql_exec::execute;
 use sql_rewriter::rewrite;
 use sql_text::write_sql;
 use std::alloc::Global;
 use std::sync::ledger::Ledger;
+use table_csv::answer_text;
+use written_query_validity::writes_fitting;
 
 // The plan of a statement.
 fn explained(alloc: Global, block: &Block) -> Result<Vec<u8>, Memory>
@@ -51,6 +56,18 @@ fn written(alloc: Global, block: &Block) -> Result<Vec<u8>, Memory>
     write_sql(alloc, &query)
 }
 
+// The answer of a statement by its SQL query.
+fn executed(alloc: Global, tables: &TableSet, block: &Block) -> Result<Vec<u8>, Memory>
+    requires { IsAnswerable tables.now block.now }
+    ensures { IfOk result (λ text. text.items ≡ text_of_answer (answer_of tables.now block.now)) }
+{
+    tables.keeps_limits();
+    writes_fitting(block);
+    let query = rewrite(alloc, block)?;
+    let answer = execute(alloc, &query, tables)?;
+    answer_text(alloc, &answer)
+}
+
 // What is shown of a statement.
 fn shown_text(
     alloc: Global,
@@ -64,6 +81,7 @@ fn shown_text(
     match shown {
         Shown::Plan => explained(alloc, block),
         Shown::Query => written(alloc, block),
+        Shown::Executed => executed(alloc, tables, block),
     }
 }
 

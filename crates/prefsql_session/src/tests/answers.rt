@@ -66,7 +66,13 @@ fn ids_of_cars(rt: HostRuntime) -> Result<(), Fail> {
         ),
     ] {
         let script = format!(in alloc; "SELECT id FROM cars {end}")?;
-        assert!(rt; ends(alloc, &answered(script.as_bytes(), out))?, "{end}");
+        let case = answered(script.as_bytes(), out);
+        let by_query = Case {
+            words: &["via", "CARS=cars.csv", "DEALERS=dealers.csv"],
+            ..case
+        };
+        assert!(rt; ends(alloc, &case)?, "{end}");
+        assert!(rt; ends(alloc, &by_query)?, "{end}");
     }
     Ok(())
 }
@@ -94,7 +100,13 @@ fn whole_answers(rt: HostRuntime) -> Result<(), Fail> {
             "DEALER,COLOR\n,blue\n,grey\nsouth,red\nnorth,blue\nnorth,red\n\n",
         ),
     ] {
-        assert!(rt; ends(alloc, &answered(script.as_bytes(), out))?, "{script}");
+        let case = answered(script.as_bytes(), out);
+        let by_query = Case {
+            words: &["via", "CARS=cars.csv", "DEALERS=dealers.csv"],
+            ..case
+        };
+        assert!(rt; ends(alloc, &case)?, "{script}");
+        assert!(rt; ends(alloc, &by_query)?, "{script}");
     }
     Ok(())
 }
@@ -129,7 +141,12 @@ fn answers_over_other_tables(rt: HostRuntime) -> Result<(), Fail> {
             files: &[("t.csv", file)],
             ..answered(script.as_bytes(), out)
         };
+        let by_query = Case {
+            words: &["via", "T=t.csv"],
+            ..case
+        };
         assert!(rt; ends(alloc, &case)?, "{script}");
+        assert!(rt; ends(alloc, &by_query)?, "{script}");
     }
     Ok(())
 }
