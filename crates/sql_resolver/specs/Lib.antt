@@ -3,3 +3,6 @@ pub mod NamesMeant
 pub mod Owed
 pub mod Reading
 pub mod Statements
+pub mod Outcomes
+pub mod Levels
+pub mod Found

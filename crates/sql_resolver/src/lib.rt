@@ -2,3 +2,8 @@
 //! they owe and do not keep. The language is this project's own profile of SQL-92 (ISO/IEC
 //! 9075:1992).
 #![tactic(auto)]
+
+mod conds;
+mod fault;
+mod found;
+mod scope;

@@ -1,0 +1,133 @@
+-- What is found of each part of a query: what is read of it, with its first fault in place of all,
+-- and a bound above the greatest one as that and one.
+use Rattle.std.specs.Prelude.{ℕ, ◌+◌, ◌++◌, Bool, if◌then◌else◌, nat_lt, List, [], ◌∷◌, map, max, min, Option, Some, None, Result, Ok, Err}
+use Rattle.std.specs.Option.{option_map}
+use Rattle.prefsql_lexer.specs.declared.fault.Spot.{Spot}
+use Rattle.prefsql_values.specs.declared.value.CompareOp.{CompareOp}
+use Rattle.prefsql_values.specs.declared.value.Domain.{Domain}
+use Rattle.prefsql_values.specs.declared.value.Domain.TheVariants.{Integer}
+use Rattle.prefsql_tables.specs.Table.{Tables}
+use Rattle.sql_tree.specs.declared.tree.SqlScalar.{SqlScalar, Sum, Case}
+use Rattle.sql_tree.specs.declared.tree.SqlCond.{SqlCond, Compare, Between, OneOf, Exists}
+use Rattle.sql_tree.specs.declared.tree.SqlWhen.{SqlWhen}
+use Rattle.sql_tree.specs.declared.tree.SumTerm.{SumTerm}
+use Rattle.sql_text.specs.declared.named.NamedCond.{NamedCond}
+use Rattle.sql_text.specs.declared.named.NamedFrom.{NamedFrom}
+use Rattle.sql_text.specs.declared.named.NamedScalar.{NamedScalar}
+use Rattle.sql_text.specs.declared.named.NamedSelect.{NamedSelect}
+use Rattle.sql_text.specs.declared.named.NamedItem.{NamedItem}
+use Rattle.sql_text.specs.declared.named.NamedQuery.{NamedQuery}
+use Rattle.sql_text.specs.declared.named.NamedTerm.{NamedTerm}
+use Rattle.sql_text.specs.declared.named.NamedWhen.{NamedWhen}
+use Rattle.sql_resolver.specs.declared.found.FoundScalar.{FoundScalar}
+use Rattle.sql_resolver.specs.declared.found.FoundTerm.{FoundTerm}
+use Rattle.sql_resolver.specs.declared.found.FoundWhen.{FoundWhen}
+use Rattle.sql_resolver.specs.declared.found.FoundOutput.{FoundOutput}
+use Rattle.sql_resolver.specs.declared.found.FoundFrom.{FoundFrom}
+use Rattle.sql_resolver.specs.declared.found.FoundQuery.{FoundQuery}
+use Rattle.sql_resolver.specs.declared.found.Selected.{Selected}
+use Rattle.sql_resolver.specs.Scope.{ScopeColumn, Scopes}
+use Rattle.sql_resolver.specs.Owed.{Fault, both_bounds, differ, fault, is_text, max_bound}
+use Rattle.sql_resolver.specs.Outcomes.{all_of, also, earlier_if, formed, outcome, paired}
+use Rattle.sql_resolver.specs.Reading.{CondReading, FromReading, OutputReading, QueryReading, ScalarReading, TermReading, WhenReading, cond_reading, from_reading, query_reading, scalar_reading, select_reading, term_reading, when_reading}
+
+-- ---- parts
+
+abbrev pub capped : ℕ → ℕ
+capped bound = min bound (max_bound + 1)
+
+abbrev pub capped_column : ScopeColumn → ScopeColumn
+capped_column column =
+    record { name = column.name; domain = column.domain; bound = option_map capped column.bound }
+
+abbrev pub found_scalar : ScalarReading → FoundScalar
+found_scalar r = record {
+  at = r.at;
+  domain = r.domain;
+  bound = option_map capped r.bound;
+  own_name = r.own_name;
+  tree = outcome r.tree r.faults;
+}
+
+abbrev pub found_cond : CondReading → Result SqlCond Fault
+found_cond r = outcome r.tree r.faults
+
+abbrev pub found_term : TermReading → FoundTerm
+found_term r = record { minus = r.minus; scalar = found_scalar r.scalar }
+
+abbrev pub found_when : WhenReading → FoundWhen
+found_when r = record { cond = found_cond r.cond; value = found_scalar r.value }
+
+abbrev pub found_output : OutputReading → FoundOutput
+found_output r = record { item = outcome r.item r.faults; column = capped_column r.column }
+
+abbrev pub found_from : FromReading → FoundFrom
+found_from r =
+    record { name = r.item.name; name_at = r.name_at; item = outcome (r.tree, r.item) r.faults }
+
+abbrev pub unless_spot : {A : Type 0} → A → Option Spot → Result A Spot
+unless_spot part None = Ok part
+unless_spot part (Some spot) = Err spot
+
+abbrev pub found_query : QueryReading → FoundQuery
+found_query r = record {
+  at = r.at;
+  selected =
+      unless_spot (record { tree = r.tree; columns = map capped_column r.columns }) r.first;
+}
+
+-- ---- parts of scripts
+
+module _ (tables : Tables) where
+  unfoldable pub scalar_found : NamedScalar → Scopes → FoundScalar
+  scalar_found scalar scopes = found_scalar (scalar_reading tables scalar scopes)
+
+  unfoldable pub cond_found : NamedCond → Scopes → Result SqlCond Fault
+  cond_found cond scopes = found_cond (cond_reading tables cond scopes)
+
+  unfoldable pub term_found : NamedTerm → Scopes → FoundTerm
+  term_found term scopes = found_term (term_reading tables term scopes)
+
+  unfoldable pub when_found : NamedWhen → Scopes → FoundWhen
+  when_found when scopes = found_when (when_reading tables when scopes)
+
+  unfoldable pub outputs_found : NamedSelect → Scopes → List FoundOutput
+  outputs_found select scopes = map found_output (select_reading tables select scopes)
+
+  unfoldable pub from_found : NamedFrom → FoundFrom
+  from_found from = found_from (from_reading tables from)
+
+  unfoldable pub query_found : NamedQuery → Scopes → FoundQuery
+  query_found query scopes = found_query (query_reading tables query scopes)
+
+-- ---- conditions
+
+-- the fault of a scalar that has another domain
+abbrev pub unlike : Option Domain → FoundScalar → Option Fault
+unlike domain b = if differ domain b.domain then Some (fault 305 b.at) else None
+
+-- the scalar, which is to have the domain
+abbrev pub alike : Option Domain → FoundScalar → Result SqlScalar Fault
+alike domain b = also b.tree (unlike domain b)
+
+abbrev pub compared : CompareOp → FoundScalar → FoundScalar → Result SqlCond Fault
+compared op a b = formed (λ both. Compare op both.0 both.1) (paired a.tree (alike a.domain b))
+
+abbrev pub between : Bool → FoundScalar → FoundScalar → FoundScalar → Result SqlCond Fault
+between negated a low high =
+    formed (λ both. Between negated both.0 both.1.0 both.1.1)
+    (paired a.tree
+    (paired low.tree (also (also high.tree (unlike a.domain low)) (unlike a.domain high))))
+
+abbrev pub one_of : Bool → FoundScalar → List FoundScalar → Result SqlCond Fault
+one_of negated a list =
+    formed (λ both. OneOf negated both.0 both.1)
+    (paired a.tree (all_of (map (alike a.domain) list)))
+
+-- a fault of the query stands at its SELECT
+abbrev pub exists : FoundQuery → Result SqlCond Fault
+exists query = by_query query.selected
+  where
+    by_query : Result Selected Spot → Result SqlCond Fault
+    by_query (Ok selected) = Ok (Exists selected.tree)
+    by_query (Err spot) = Err (record { at = query.at; spot = spot })
