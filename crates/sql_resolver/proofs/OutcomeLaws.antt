@@ -2,7 +2,7 @@
 use Rattle.std.proofs.Common.{◌≡◌, length, Bool, cond, Option, Some, None, List, [], ◌∷◌, ◌++◌, Result, Ok, Err, refl, sym, ap, ◌∙◌, arith, append_assoc, append-nil}
 use Rattle.std.proofs.lemmas.Bool.Decides.{nat_tests}
 use Rattle.sql_resolver.specs.Owed.{Fault, first_of, is_before}
-use Rattle.sql_resolver.specs.Outcomes.{all_of, earlier, formed, outcome, paired}
+use Rattle.sql_resolver.specs.Outcomes.{all_of, also, earlier, earlier_if, first_fault, formed, outcome, paired}
 
 earlier_three : (a b c : Fault) → earlier (earlier a b) c ≡ earlier a (earlier b c)
 earlier_three a b c = grind (arith, nat_tests)
@@ -61,3 +61,13 @@ all_done found [] whole empty so_far = sym (done found) ∙ so_far
 all_done found (part ∷ rest) whole empty so_far = absurd (omega (arith, empty))
 
 pub ruleset pushes = (pushed_all, all_begun)
+
+pub earlier_if_none : (a : Option Fault) → earlier_if a None ≡ a
+earlier_if_none None = refl
+earlier_if_none (Some f) = refl
+
+pub earlier_if_assoc : (a b c : Option Fault) → earlier_if (earlier_if a b) c ≡ earlier_if a (earlier_if b c)
+earlier_if_assoc None b c = refl
+earlier_if_assoc (Some f) None c = refl
+earlier_if_assoc (Some f) (Some g) None = refl
+earlier_if_assoc (Some f) (Some g) (Some h) = ap Some (earlier_three f g h)

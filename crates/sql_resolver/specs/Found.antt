@@ -131,3 +131,92 @@ exists query = by_query query.selected
     by_query : Result Selected Spot → Result SqlCond Fault
     by_query (Ok selected) = Ok (Exists selected.tree)
     by_query (Err spot) = Err (record { at = query.at; spot = spot })
+
+-- ---- scalars
+
+-- the sum of two bounds, at most one above the greatest
+abbrev pub added : Option ℕ → Option ℕ → Option ℕ
+added = both_bounds (λ m n. capped (m + n))
+
+abbrev pub sum_bound : List FoundTerm → Option ℕ
+sum_bound [] = Some 0
+sum_bound (term ∷ more) = added term.scalar.bound (sum_bound more)
+
+-- the fault of the term that has this bound, after terms of this sum, or that of the later terms
+abbrev pub above_step : ℕ → ℕ → Option ℕ → (ℕ → Option Fault) → Option Fault
+above_step total at None later = None
+above_step total at (Some bound) later =
+    if nat_lt max_bound (total + bound) then Some (fault 401 at) else later (total + bound)
+
+-- the fault of the first term at which the bounds so far exceed the greatest one
+abbrev pub above : ℕ → List FoundTerm → Option Fault
+above total [] = None
+above total (term ∷ more) =
+    above_step total term.scalar.at term.scalar.bound (λ sum. above sum more)
+
+-- the fault of a term that is a text
+abbrev pub text_fault : FoundScalar → Option Fault
+text_fault scalar = if is_text scalar.domain then Some (fault 305 scalar.at) else None
+
+abbrev pub term_tree : FoundTerm → Result SumTerm Fault
+term_tree term =
+    formed (λ scalar. record { minus = term.minus; scalar = scalar })
+    (also term.scalar.tree (text_fault term.scalar))
+
+abbrev pub place_of_terms : List FoundTerm → ℕ
+place_of_terms [] = 0
+place_of_terms (term ∷ more) = term.scalar.at
+
+abbrev pub sum_tree : Result (List SumTerm) Fault → Option Fault → Result SqlScalar Fault
+sum_tree terms above = also (formed Sum terms) above
+
+abbrev pub sum_of : List FoundTerm → FoundScalar
+sum_of terms = record {
+  at = place_of_terms terms;
+  domain = Some Integer;
+  bound = sum_bound terms;
+  own_name = None;
+  tree = sum_tree (all_of (map term_tree terms)) (above 0 terms);
+}
+
+abbrev pub when_tree : FoundWhen → Result SqlWhen Fault
+when_tree when =
+    formed (λ both. record { cond = both.0; value = both.1 }) (paired when.cond when.value.tree)
+
+-- the values of a CASE, that of ELSE at the end
+abbrev pub results : List FoundWhen → Option FoundScalar → List FoundScalar
+results [] None = []
+results [] (Some last) = last ∷ []
+results (when ∷ more) last = when.value ∷ results more last
+
+abbrev pub first_domain : List FoundScalar → Option Domain
+first_domain [] = None
+first_domain (value ∷ more) = value.domain
+
+abbrev pub greatest : List FoundScalar → Option ℕ
+greatest [] = Some 0
+greatest (value ∷ more) = both_bounds max value.bound (greatest more)
+
+-- the first fault of a scalar that has another domain
+abbrev pub first_unlike : Option Domain → List FoundScalar → Option Fault
+first_unlike domain [] = None
+first_unlike domain (value ∷ more) = earlier_if (unlike domain value) (first_unlike domain more)
+
+abbrev pub last_tree : Option FoundScalar → Result (Option SqlScalar) Fault
+last_tree None = Ok None
+last_tree (Some last) = formed Some last.tree
+
+abbrev pub choice : ℕ → List FoundWhen → Option FoundScalar → FoundScalar
+choice at whens last =
+    let values = results whens last in
+    let domain = first_domain values in
+    record {
+      at = at;
+      domain = domain;
+      bound = greatest values;
+      own_name = None;
+      tree =
+          formed (λ both. Case both.0 both.1)
+          (paired (all_of (map when_tree whens))
+          (also (last_tree last) (first_unlike domain values)));
+    }

@@ -6,4 +6,6 @@
 mod conds;
 mod fault;
 mod found;
+mod leaves;
+mod scalars;
 mod scope;

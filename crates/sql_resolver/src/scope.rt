@@ -188,7 +188,7 @@ fn push_places(
 }
 
 /// The columns that the name can mean.
-fn places_of(alloc: Global, name: &NameTree, levels: &[Level<'_>]) -> Result<Vec<SqlPlace>, Memory>
+pub(crate) fn places_of(alloc: Global, name: &NameTree, levels: &[Level<'_>]) -> Result<Vec<SqlPlace>, Memory>
     ensures { IfOk result (λ places. places.items
         ≡ places_of name.now.first name.now.second 0 (names_in (scopes_of levels.now))) }
 {
