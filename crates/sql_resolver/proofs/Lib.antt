@@ -1,2 +1,6 @@
 pub mod OutcomeLaws
+pub mod SumLaws
+pub mod Equations
+pub mod ChoiceLaws
+pub mod CondLaws
 pub mod BoundLaws

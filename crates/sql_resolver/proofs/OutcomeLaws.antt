@@ -1,6 +1,7 @@
 -- Outcomes of lists that are put together.
-use Rattle.std.proofs.Common.{◌≡◌, length, Bool, cond, Option, Some, None, List, [], ◌∷◌, ◌++◌, Result, Ok, Err, refl, sym, ap, ◌∙◌, arith, append_assoc, append-nil}
+use Rattle.std.proofs.Common.{◌≡◌, length, map, Bool, cond, Option, Some, None, List, [], ◌∷◌, ◌++◌, Result, Ok, Err, refl, sym, ap, ◌∙◌, arith, append_assoc, append-nil}
 use Rattle.std.proofs.lemmas.Bool.Decides.{nat_tests}
+use Rattle.std.specs.List.{flat_map}
 use Rattle.sql_resolver.specs.Owed.{Fault, first_of, is_before}
 use Rattle.sql_resolver.specs.Outcomes.{all_of, also, earlier, earlier_if, first_fault, formed, outcome, paired}
 
@@ -71,3 +72,24 @@ earlier_if_assoc None b c = refl
 earlier_if_assoc (Some f) None c = refl
 earlier_if_assoc (Some f) (Some g) None = refl
 earlier_if_assoc (Some f) (Some g) (Some h) = ap Some (earlier_three f g h)
+
+-- a part with faults of its own, and others after them
+pub outcome_also : {A : Type 0} (a : A) (fs gs : List Fault) → outcome a (fs ++ gs) ≡ also (outcome a fs) (first_fault gs)
+outcome_also a [] [] = refl
+outcome_also a [] (g ∷ gs) = refl
+outcome_also a (f ∷ fs) [] = ap (λ x. Err (first_of f x)) (append-nil fs)
+outcome_also a (f ∷ fs) (g ∷ gs) = ap Err (first_append f g fs gs)
+
+pub first_fault_append : (fs gs : List Fault) → first_fault (fs ++ gs) ≡ earlier_if (first_fault fs) (first_fault gs)
+first_fault_append [] gs = refl
+first_fault_append (f ∷ fs) [] = ap (λ x. Some (first_of f x)) (append-nil fs)
+first_fault_append (f ∷ fs) (g ∷ gs) = ap Some (first_append f g fs gs)
+
+-- the outcome of a list by those of its parts
+pub outcome_each : {A R : Type 0} (tree : R → A) (faults : R → List Fault) (rs : List R) → outcome (map tree rs) (flat_map faults rs) ≡ all_of (map (λ r. outcome (tree r) (faults r)) rs)
+outcome_each tree faults [] = refl
+outcome_each tree faults (r ∷ rs) =
+    outcome_form (λ both. both.0 ∷ both.1) (tree r, map tree rs) (faults r ++ flat_map faults rs)
+    ∙ ap (formed (λ both. both.0 ∷ both.1))
+    (outcome_pair (tree r) (map tree rs) (faults r) (flat_map faults rs)
+    ∙ ap (paired (outcome (tree r) (faults r))) (outcome_each tree faults rs))

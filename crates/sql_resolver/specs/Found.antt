@@ -1,7 +1,9 @@
 -- What is found of each part of a query: what is read of it, with its first fault in place of all,
 -- and a bound above the greatest one as that and one.
 use Rattle.std.specs.Prelude.{ℕ, ◌+◌, ◌++◌, Bool, if◌then◌else◌, nat_lt, List, [], ◌∷◌, map, max, min, Option, Some, None, Result, Ok, Err}
+use Rattle.std.specs.List.{list_any}
 use Rattle.std.specs.Option.{option_map}
+use Rattle.std.specs.Str.{bytes_eq}
 use Rattle.prefsql_lexer.specs.declared.fault.Spot.{Spot}
 use Rattle.prefsql_values.specs.declared.value.CompareOp.{CompareOp}
 use Rattle.prefsql_values.specs.declared.value.Domain.{Domain}
@@ -9,6 +11,10 @@ use Rattle.prefsql_values.specs.declared.value.Domain.TheVariants.{Integer}
 use Rattle.prefsql_tables.specs.Table.{Tables}
 use Rattle.sql_tree.specs.declared.tree.SqlScalar.{SqlScalar, Sum, Case}
 use Rattle.sql_tree.specs.declared.tree.SqlCond.{SqlCond, Compare, Between, OneOf, Exists}
+use Rattle.sql_tree.specs.declared.tree.SqlFrom.{SqlFrom}
+use Rattle.sql_tree.specs.declared.tree.SqlItem.{SqlItem}
+use Rattle.sql_tree.specs.declared.tree.SqlSource.{Derived}
+use Rattle.sql_tree.specs.declared.tree.SqlQuery.{SqlQuery, roll-SqlQuery}
 use Rattle.sql_tree.specs.declared.tree.SqlWhen.{SqlWhen}
 use Rattle.sql_tree.specs.declared.tree.SumTerm.{SumTerm}
 use Rattle.sql_text.specs.declared.named.NamedCond.{NamedCond}
@@ -26,10 +32,10 @@ use Rattle.sql_resolver.specs.declared.found.FoundOutput.{FoundOutput}
 use Rattle.sql_resolver.specs.declared.found.FoundFrom.{FoundFrom}
 use Rattle.sql_resolver.specs.declared.found.FoundQuery.{FoundQuery}
 use Rattle.sql_resolver.specs.declared.found.Selected.{Selected}
-use Rattle.sql_resolver.specs.Scope.{ScopeColumn, Scopes}
+use Rattle.sql_resolver.specs.Scope.{ScopeColumn, ScopeItem, Scopes}
 use Rattle.sql_resolver.specs.Owed.{Fault, both_bounds, differ, fault, is_text, max_bound}
 use Rattle.sql_resolver.specs.Outcomes.{all_of, also, earlier_if, formed, outcome, paired}
-use Rattle.sql_resolver.specs.Reading.{CondReading, FromReading, OutputReading, QueryReading, ScalarReading, TermReading, WhenReading, cond_reading, from_reading, query_reading, scalar_reading, select_reading, term_reading, when_reading}
+use Rattle.sql_resolver.specs.Reading.{CondReading, FromReading, OutputReading, QueryReading, ScalarReading, TermReading, WhenReading, cond_reading, from_reading, output_name, query_reading, scalar_reading, select_reading, term_reading, when_reading}
 
 -- ---- parts
 
@@ -125,12 +131,12 @@ one_of negated a list =
     (paired a.tree (all_of (map (alike a.domain) list)))
 
 -- a fault of the query stands at its SELECT
+abbrev pub exists_at : ℕ → Result Selected Spot → Result SqlCond Fault
+exists_at at (Ok selected) = Ok (Exists selected.tree)
+exists_at at (Err spot) = Err (record { at = at; spot = spot })
+
 abbrev pub exists : FoundQuery → Result SqlCond Fault
-exists query = by_query query.selected
-  where
-    by_query : Result Selected Spot → Result SqlCond Fault
-    by_query (Ok selected) = Ok (Exists selected.tree)
-    by_query (Err spot) = Err (record { at = query.at; spot = spot })
+exists query = exists_at query.at query.selected
 
 -- ---- scalars
 
@@ -220,3 +226,48 @@ choice at whens last =
           (paired (all_of (map when_tree whens))
           (also (last_tree last) (first_unlike domain values)));
     }
+
+-- ---- output columns
+
+-- an output column of this position from 1, with the name after AS if one is written
+abbrev pub output : ℕ → Option (List ℕ) → FoundScalar → FoundOutput
+output at written scalar =
+    let name = output_name written scalar.own_name at in
+    record {
+      item = formed (λ tree. record { value = tree; name = name }) scalar.tree;
+      column = record { name = name; domain = scalar.domain; bound = scalar.bound };
+    }
+
+-- ---- FROM
+
+abbrev pub derived_item : ℕ → Result Selected Spot → List ℕ → Result (SqlFrom × ScopeItem) Fault
+derived_item at (Ok selected) name =
+    Ok (record { name = name; source = Derived selected.tree },
+    record { name = name; columns = selected.columns })
+derived_item at (Err spot) name = Err (record { at = at; spot = spot })
+
+-- a query in parentheses with its name
+abbrev pub derived : FoundQuery → List ℕ → ℕ → FoundFrom
+derived query name name_at = record {
+  name = name;
+  name_at = name_at;
+  item = derived_item query.at query.selected name;
+}
+
+-- the first fault of an item that has the name of an earlier one
+abbrev pub first_repeated : List (List ℕ) → List FoundFrom → Option Fault
+first_repeated before [] = None
+first_repeated before (from ∷ more) =
+    earlier_if
+    (if list_any (bytes_eq from.name) before then Some (fault 302 from.name_at) else None)
+    (first_repeated (before ++ from.name ∷ []) more)
+
+abbrev pub from_items : List FoundFrom → Result (List (SqlFrom × ScopeItem)) Fault
+from_items froms = also (all_of (map (λ (from : FoundFrom). from.item) froms)) (first_repeated [] froms)
+
+-- ---- queries
+
+-- the fault of a clause as that of its query
+abbrev pub spotted : {A : Type 0} → Result A Fault → Result A Spot
+spotted (Ok part) = Ok part
+spotted (Err fault) = Err fault.spot

@@ -7,5 +7,6 @@ mod conds;
 mod fault;
 mod found;
 mod leaves;
+mod outputs;
 mod scalars;
 mod scope;

@@ -68,7 +68,7 @@ pub(crate) fn within<'s>(
 }
 
 /// The number in a place, or want of room where it is too large for one.
-fn narrow(n: usize) -> Result<u32, Memory>
+pub(crate) fn narrow(n: usize) -> Result<u32, Memory>
     ensures { IfOk result (λ narrow. narrow ≡ n) }
 {
     if n <= u32::MAX as usize {
