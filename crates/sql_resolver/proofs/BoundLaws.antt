@@ -1,8 +1,7 @@
 -- Bounds of sums and of choices.
-use Rattle.std.proofs.Common.{◌≡◌, ℕ, ◌+◌, Option, Some, None, List, [], ◌∷◌, refl, ap, arith, min, max}
+use Rattle.std.proofs.Common.{◌≡◌, ℕ, ◌+◌, Option, Some, None, List, [], ◌∷◌, refl, ap, arith}
 use Rattle.sql_resolver.specs.declared.found.FoundTerm.{FoundTerm}
 use Rattle.sql_resolver.specs.Found.{added, capped, sum_bound}
-use Rattle.sql_resolver.specs.Owed.{max_bound}
 
 capped_more : (m n : ℕ) → capped (0 + capped (m + n)) ≡ capped (m + n)
 capped_more m n = omega arith

@@ -1,17 +1,17 @@
 -- What is found of a CASE, by what is found of its WHENs and its ELSE.
-use Rattle.std.proofs.Common.{◌≡◌, ℕ, ◌+◌, Bool, true, false, cond, Option, Some, None, List, [], ◌∷◌, ◌++◌, map, max, Result, Ok, Err, refl, sym, ap, ◌∙◌, arith, append_assoc}
+use Rattle.std.proofs.Common.{◌≡◌, ℕ, Option, Some, None, List, [], ◌∷◌, ◌++◌, map, max, refl, ap, ◌∙◌, arith, append_assoc}
 use Rattle.std.specs.List.{flat_map}
 use Rattle.std.specs.Option.{option_map}
 use Rattle.prefsql_values.specs.declared.value.Domain.{Domain}
-use Rattle.sql_tree.specs.declared.tree.SqlScalar.{SqlScalar, Case}
+use Rattle.sql_tree.specs.declared.tree.SqlScalar.{Case}
 use Rattle.sql_tree.specs.declared.tree.SqlWhen.{SqlWhen}
 use Rattle.sql_resolver.specs.declared.found.FoundScalar.{FoundScalar}
 use Rattle.sql_resolver.specs.declared.found.FoundWhen.{FoundWhen}
-use Rattle.sql_resolver.specs.Owed.{Fault, both_bounds, differ, fault, fault_if, max_bound}
+use Rattle.sql_resolver.specs.Owed.{Fault, both_bounds, differ, fault_if}
 use Rattle.sql_resolver.specs.Outcomes.{all_of, also, earlier_if, first_fault, formed, outcome, paired}
 use Rattle.sql_resolver.specs.Reading as reading
 use Rattle.sql_resolver.specs.Reading.{ScalarReading, WhenReading, case_reading, faults_if, results_of, tree_if}
-use Rattle.sql_resolver.specs.Found.{capped, choice, first_domain, first_unlike, found_scalar, found_when, greatest, last_tree, results, unlike, when_tree}
+use Rattle.sql_resolver.specs.Found.{capped, choice, first_domain, first_unlike, found_scalar, found_when, greatest, last_tree, results, when_tree}
 use Rattle.sql_resolver.proofs.OutcomeLaws.{first_fault_append, outcome_also, outcome_each, outcome_form, outcome_pair}
 use Rattle.sql_resolver.proofs.CondLaws.{tested}
 

@@ -1,14 +1,12 @@
 -- What is found of a condition, by what is found of its parts.
-use Rattle.std.proofs.Common.{◌≡◌, ℕ, Bool, true, false, cond, Option, Some, None, List, [], ◌∷◌, ◌++◌, map, Result, Ok, Err, refl, sym, ap, ◌∙◌, append_assoc}
+use Rattle.std.proofs.Common.{◌≡◌, ℕ, Bool, true, false, cond, Option, Some, None, List, [], ◌∷◌, ◌++◌, map, refl, sym, ap, ◌∙◌, append_assoc}
 use Rattle.std.specs.List.{flat_map}
 use Rattle.prefsql_lexer.specs.declared.fault.Spot.{Spot}
 use Rattle.prefsql_values.specs.declared.value.CompareOp.{CompareOp}
-use Rattle.sql_tree.specs.declared.tree.SqlScalar.{SqlScalar}
 use Rattle.sql_tree.specs.declared.tree.SqlCond.{Compare, Between, OneOf, Exists}
 use Rattle.sql_tree.specs.declared.tree.SqlQuery.{SqlQuery}
 use Rattle.sql_resolver.specs.Scope.{ScopeColumn}
-use Rattle.sql_resolver.specs.declared.found.FoundScalar.{FoundScalar}
-use Rattle.sql_resolver.specs.Owed.{Fault, differ, fault, fault_if, inner_faults}
+use Rattle.sql_resolver.specs.Owed.{differ, fault, fault_if, inner_faults}
 use Rattle.sql_resolver.specs.Outcomes.{all_of, also, first_fault, formed, outcome, paired}
 use Rattle.sql_resolver.specs.Reading as reading
 use Rattle.sql_resolver.specs.Reading.{QueryReading, ScalarReading}

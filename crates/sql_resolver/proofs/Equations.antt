@@ -1,5 +1,5 @@
 -- What is found of each part of a script, by what is found of the parts below it.
-use Rattle.std.proofs.Common.{◌≡◌, ℕ, Bool, rules, Option, Some, None, List, [], ◌∷◌, ◌++◌, map, Result, sym, ap, ◌∙◌, append_assoc}
+use Rattle.std.proofs.Common.{◌≡◌, ℕ, Bool, rules, Option, Some, None, List, ◌++◌, map, sym, ap, ◌∙◌, append_assoc}
 use Rattle.std.specs.List.{flat_map}
 use Rattle.std.specs.Option.{option_map}
 use Rattle.std.proofs.lemmas.Simd.{map-map}
@@ -9,15 +9,13 @@ use Rattle.query_tree.specs.declared.name.NameTree.{NameTree}
 use Rattle.query_tree.specs.declared.name.LiteralTree.{LiteralTree}
 use Rattle.sql_tree.specs.declared.tree.SqlCond as sql
 use Rattle.sql_text.specs.declared.named.NamedCond.{NamedCond, And, Or, Not, Compare, Between, OneOf, IsNull, Exists}
-use Rattle.sql_text.specs.declared.named.NamedCond.TheOpen.{NamedCond-F, NamedFrom-F, NamedScalar-F, NamedSelect-F}
-use Rattle.sql_text.specs.declared.named.NamedCond.TheFolds.{the_lemmas, fold-roll-NamedCond, fold-roll-NamedScalar, fold-roll-NamedFrom, fold-roll-NamedSelect}
+use Rattle.sql_text.specs.declared.named.NamedCond.TheOpen.{NamedCond-F, NamedScalar-F}
+use Rattle.sql_text.specs.declared.named.NamedCond.TheFolds.{the_lemmas, fold-roll-NamedCond, fold-roll-NamedScalar}
 use Rattle.sql_text.specs.declared.named.NamedCond.TheViews.{rolls-And, rolls-Or, rolls-Not, rolls-Compare, rolls-Between, rolls-OneOf, rolls-IsNull, rolls-Exists, rolls-Column, rolls-Literal, rolls-Sum, rolls-Case}
 use Rattle.sql_text.specs.declared.named.NamedScalar.{NamedScalar, Column, Literal, Sum, Case}
 use Rattle.sql_text.specs.declared.named.NamedQuery.{NamedQuery}
 use Rattle.sql_text.specs.declared.named.NamedTerm.{NamedTerm}
 use Rattle.sql_text.specs.declared.named.NamedWhen.{NamedWhen}
-use Rattle.sql_resolver.specs.declared.found.FoundTerm.{FoundTerm}
-use Rattle.sql_resolver.specs.declared.found.FoundWhen.{FoundWhen}
 use Rattle.sql_resolver.specs.NamesMeant.{places_of}
 use Rattle.sql_resolver.specs.Scope.{Scopes, names_in}
 use Rattle.sql_resolver.specs.Outcomes.{all_of, formed, outcome}

@@ -1,8 +1,8 @@
 -- Outcomes of lists that are put together.
-use Rattle.std.proofs.Common.{◌≡◌, length, map, Bool, cond, Option, Some, None, List, [], ◌∷◌, ◌++◌, Result, Ok, Err, refl, sym, ap, ◌∙◌, arith, append_assoc, append-nil}
+use Rattle.std.proofs.Common.{◌≡◌, length, map, Option, Some, None, List, [], ◌∷◌, ◌++◌, Result, Ok, Err, refl, sym, ap, ◌∙◌, arith, append_assoc, append-nil}
 use Rattle.std.proofs.lemmas.Bool.Decides.{nat_tests}
 use Rattle.std.specs.List.{flat_map}
-use Rattle.sql_resolver.specs.Owed.{Fault, first_of, is_before}
+use Rattle.sql_resolver.specs.Owed.{Fault, first_of}
 use Rattle.sql_resolver.specs.Outcomes.{all_of, also, earlier, earlier_if, first_fault, formed, outcome, paired}
 
 earlier_three : (a b c : Fault) → earlier (earlier a b) c ≡ earlier a (earlier b c)
@@ -93,3 +93,5 @@ outcome_each tree faults (r ∷ rs) =
     ∙ ap (formed (λ both. both.0 ∷ both.1))
     (outcome_pair (tree r) (map tree rs) (faults r) (flat_map faults rs)
     ∙ ap (paired (outcome (tree r) (faults r))) (outcome_each tree faults rs))
+
+pub ruleset earlier_ifs = (earlier_if_none, earlier_if_assoc)

@@ -1,22 +1,18 @@
 -- What is found of a sum, by what is found of its terms.
-use Rattle.std.proofs.Common.{◌≡◌, ℕ, ◌+◌, ◌≤◌, nat_lt, Bool, true, false, cond, Option, Some, None, List, [], ◌∷◌, ◌++◌, map, Result, refl, sym, ap, ◌∙◌, arith, inl, inr, ⊎_elim}
+use Rattle.std.proofs.Common.{◌≡◌, ℕ, ◌+◌, ◌≤◌, nat_lt, false, cond, Option, Some, None, List, [], ◌∷◌, ◌++◌, map, Result, refl, sym, ap, ◌∙◌, arith, ⊎_elim}
 use Rattle.std.specs.List.{flat_map}
 use Rattle.std.specs.Option.{option_map}
-use Rattle.std.proofs.lemmas.Bool.{cases_Bool, cond-true, cond-false}
+use Rattle.std.proofs.lemmas.Bool.{cases_Bool}
 use Rattle.std.proofs.lemmas.Bool.Decides.{nat_tests}
-use Rattle.std.proofs.lemmas.Simd.{map-map}
 use Rattle.prefsql_values.specs.declared.value.Domain.{Domain}
 use Rattle.prefsql_values.specs.declared.value.Domain.TheVariants.{Integer, Chars as CharsDomain}
 use Rattle.sql_tree.specs.declared.tree.SqlScalar.{Sum}
 use Rattle.sql_tree.specs.declared.tree.SumTerm.{SumTerm}
-use Rattle.sql_resolver.specs.declared.found.FoundScalar.{FoundScalar}
-use Rattle.sql_resolver.specs.declared.found.FoundTerm.{FoundTerm}
 use Rattle.sql_resolver.specs.Owed.{Fault, both_bounds, fault, fault_if, is_text, max_bound}
 use Rattle.sql_resolver.specs.Outcomes.{all_of, also, first_fault, formed, outcome}
 use Rattle.sql_resolver.specs.Reading as reading
 use Rattle.sql_resolver.specs.Reading.{ScalarReading, TermReading, bound_faults, bound_step, sum_reading}
-use Rattle.sql_resolver.specs.Found as found
-use Rattle.sql_resolver.specs.Found.{above, above_step, added, capped, found_scalar, found_term, place_of_terms, sum_bound, sum_of, term_tree, text_fault}
+use Rattle.sql_resolver.specs.Found.{above, above_step, added, capped, found_scalar, found_term, place_of_terms, sum_bound, sum_of, term_tree}
 use Rattle.sql_resolver.proofs.OutcomeLaws.{outcome_also, outcome_each, outcome_form}
 
 place_is : (terms : List TermReading) → reading.place_of_terms terms ≡ place_of_terms (map found_term terms)

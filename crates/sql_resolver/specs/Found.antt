@@ -1,6 +1,6 @@
 -- What is found of each part of a query: what is read of it, with its first fault in place of all,
 -- and a bound above the greatest one as that and one.
-use Rattle.std.specs.Prelude.{ℕ, ◌+◌, ◌++◌, Bool, if◌then◌else◌, nat_lt, List, [], ◌∷◌, map, max, min, Option, Some, None, Result, Ok, Err}
+use Rattle.std.specs.Prelude.{ℕ, ◌+◌, ◌++◌, ◌&&◌, Bool, true, nat_le, if◌then◌else◌, nat_lt, List, [], ◌∷◌, map, max, min, Option, Some, None, Result, Ok, Err}
 use Rattle.std.specs.List.{list_any}
 use Rattle.std.specs.Option.{option_map}
 use Rattle.std.specs.Str.{bytes_eq}
@@ -14,7 +14,7 @@ use Rattle.sql_tree.specs.declared.tree.SqlCond.{SqlCond, Compare, Between, OneO
 use Rattle.sql_tree.specs.declared.tree.SqlFrom.{SqlFrom}
 use Rattle.sql_tree.specs.declared.tree.SqlItem.{SqlItem}
 use Rattle.sql_tree.specs.declared.tree.SqlSource.{Derived}
-use Rattle.sql_tree.specs.declared.tree.SqlQuery.{SqlQuery, roll-SqlQuery}
+use Rattle.sql_tree.specs.declared.tree.SqlQuery.{roll-SqlQuery}
 use Rattle.sql_tree.specs.declared.tree.SqlWhen.{SqlWhen}
 use Rattle.sql_tree.specs.declared.tree.SumTerm.{SumTerm}
 use Rattle.sql_text.specs.declared.named.NamedCond.{NamedCond}
@@ -22,7 +22,7 @@ use Rattle.sql_text.specs.declared.named.NamedFrom.{NamedFrom}
 use Rattle.sql_text.specs.declared.named.NamedScalar.{NamedScalar}
 use Rattle.sql_text.specs.declared.named.NamedSelect.{NamedSelect}
 use Rattle.sql_text.specs.declared.named.NamedItem.{NamedItem}
-use Rattle.sql_text.specs.declared.named.NamedQuery.{NamedQuery}
+use Rattle.sql_text.specs.declared.named.NamedQuery.{NamedQuery, out-NamedQuery}
 use Rattle.sql_text.specs.declared.named.NamedTerm.{NamedTerm}
 use Rattle.sql_text.specs.declared.named.NamedWhen.{NamedWhen}
 use Rattle.sql_resolver.specs.declared.found.FoundScalar.{FoundScalar}
@@ -242,8 +242,10 @@ output at written scalar =
 
 abbrev pub derived_item : ℕ → Result Selected Spot → List ℕ → Result (SqlFrom × ScopeItem) Fault
 derived_item at (Ok selected) name =
-    Ok (record { name = name; source = Derived selected.tree },
-    record { name = name; columns = selected.columns })
+    Ok (
+      record { name = name; source = Derived selected.tree },
+      record { name = name; columns = selected.columns },
+    )
 derived_item at (Err spot) name = Err (record { at = at; spot = spot })
 
 -- a query in parentheses with its name
@@ -271,3 +273,69 @@ from_items froms = also (all_of (map (λ (from : FoundFrom). from.item) froms)) 
 abbrev pub spotted : {A : Type 0} → Result A Fault → Result A Spot
 spotted (Ok part) = Ok part
 spotted (Err fault) = Err fault.spot
+
+-- both clauses, or the fault of the first that has one
+abbrev pub in_turn : {A B : Type 0} → Result A Spot → Result B Spot → Result (A × B) Spot
+in_turn (Ok a) (Ok b) = Ok (a, b)
+in_turn (Ok a) (Err spot) = Err spot
+in_turn (Err spot) later = Err spot
+
+abbrev pub selected_of :
+    Bool → List SqlFrom → List ScopeColumn → Result (List SqlItem × Option SqlCond) Spot →
+    Result Selected Spot
+selected_of distinct from columns (Ok both) =
+    Ok (record {
+      tree =
+          roll-SqlQuery (record {
+            distinct = distinct;
+            items = both.0;
+            from = from;
+            filter = both.1;
+            order = [];
+          });
+      columns = columns;
+    })
+selected_of distinct from columns (Err spot) = Err spot
+
+-- a query by its FROM items, its output columns and its condition
+abbrev pub selected :
+    Bool → List SqlFrom → List FoundOutput → Result (Option SqlCond) Fault → Result Selected Spot
+selected distinct from outputs filter =
+    selected_of distinct from (map (λ (output : FoundOutput). output.column) outputs)
+    (in_turn (spotted (all_of (map (λ (output : FoundOutput). output.item) outputs)))
+    (spotted filter))
+
+abbrev pub is_small : Option ℕ → Bool
+is_small None = true
+is_small (Some bound) = nat_le bound max_bound
+
+-- no column has a bound above the greatest
+abbrev pub is_within : List ScopeColumn → Bool
+is_within [] = true
+is_within (column ∷ more) = is_small column.bound && is_within more
+
+abbrev pub has_small_columns : Result Selected Spot → Bool
+has_small_columns (Ok selected) = is_within selected.columns
+has_small_columns (Err spot) = true
+
+-- ---- queries by their clauses
+
+module _ (tables : Tables) where
+  abbrev pub outputs_of : ℕ → List NamedItem → Scopes → List FoundOutput
+  outputs_of at [] scopes = []
+  outputs_of at (item ∷ more) scopes =
+      output at item.name (scalar_found tables item.value scopes) ∷ outputs_of (at + 1) more scopes
+
+  abbrev pub filter_found : Option NamedCond → Scopes → Result (Option SqlCond) Fault
+  filter_found None scopes = Ok None
+  filter_found (Some cond) scopes = formed Some (cond_found tables cond scopes)
+
+  -- a query in these scopes by the items of its FROM
+  abbrev pub selected_in :
+      NamedQuery → Scopes → Result (List (SqlFrom × ScopeItem)) Fault → Result Selected Spot
+  selected_in query outer (Ok pairs) =
+      let scopes : Scopes = map (λ (p : SqlFrom × ScopeItem). p.1) pairs ∷ outer in
+      selected (out-NamedQuery query).distinct (map (λ (p : SqlFrom × ScopeItem). p.0) pairs)
+      (outputs_found tables (out-NamedQuery query).select scopes)
+      (filter_found (out-NamedQuery query).filter scopes)
+  selected_in query outer (Err fault) = Err fault.spot

@@ -2,13 +2,8 @@
 use Rattle.std.specs.Prelude.{ℕ, List, map}
 use Rattle.std.specs.Str.{bytes_eq}
 use Rattle.sql_tree.specs.declared.tree.SqlPlace.{SqlPlace}
-use Rattle.sql_resolver.specs.declared.scope.Level.{Level}
 use Rattle.sql_resolver.specs.NamesMeant.{positions_from}
-use Rattle.sql_resolver.specs.Scope.{ScopeColumn, Scopes}
-
--- the scopes of the levels
-abbrev pub scopes_of : List Level → Scopes
-scopes_of = map (λ (level : Level). level.items.now)
+use Rattle.sql_resolver.specs.Scope.{ScopeColumn}
 
 abbrev pub column_names : List ScopeColumn → List (List ℕ)
 column_names = map (λ (column : ScopeColumn). column.name)

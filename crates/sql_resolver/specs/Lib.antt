@@ -6,3 +6,4 @@ pub mod Statements
 pub mod Outcomes
 pub mod Levels
 pub mod Found
+pub mod Ordered

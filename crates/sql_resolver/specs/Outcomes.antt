@@ -1,7 +1,6 @@
 -- A part of a query without faults, or its first fault, and outcomes that are put together. The
 -- order of faults is this project's own.
-use Rattle.std.specs.Prelude.{if◌then◌else◌, Bool, true, false, List, [], ◌∷◌, ◌++◌, Option, Some, None, Result, Ok, Err}
-use Rattle.prefsql_lexer.specs.declared.fault.Spot.{Spot}
+use Rattle.std.specs.Prelude.{if◌then◌else◌, List, [], ◌∷◌, Option, Some, None, Result, Ok, Err}
 use Rattle.sql_resolver.specs.Owed.{Fault, first_of, is_before}
 
 -- what the part is, where it has no fault, and else its first fault

@@ -1,13 +1,15 @@
 //! Conditions by what is found of their parts.
 
-ghost use Rattle.std.specs.Prelude.{◌≡◌, IfOk, map};
+ghost use Rattle.std.specs.Prelude.{◌≡◌, IfOk, Some, map};
+ghost use Rattle.sql_tree.specs.declared.tree.SqlCond as sql;
 ghost use Rattle.sql_resolver.specs.Found as found;
+ghost use Rattle.sql_resolver.specs.Outcomes.{formed};
 ghost use Rattle.sql_resolver.specs.Owed.{differ};
 
 use crate::fault::{Fault, all_of, also, paired};
 use crate::found::{FoundQuery, FoundScalar};
 use prefsql_lexer::Spot;
-use prefsql_values::{Boxed, CompareOp, Domain, Memory};
+use prefsql_values::{Boxed, CompareOp, Domain, List, Memory};
 use sql_tree::{SqlCond, SqlScalar};
 use std::alloc::Global;
 
@@ -120,4 +122,45 @@ pub(crate) fn exists(alloc: Global, query: FoundQuery) -> Result<Result<SqlCond,
         Ok(selected) => Ok(Ok(SqlCond::Exists(Boxed::new(alloc, selected.tree)?))),
         Err(spot) => Ok(Err(Fault { at, spot })),
     }
+}
+
+/// Parts that must all hold.
+pub(crate) fn conjunction(parts: Result<List<SqlCond>, Fault>) -> Result<SqlCond, Fault>
+    ensures { result ≡ formed sql.And parts }
+{
+    Ok(SqlCond::And(parts?))
+}
+
+/// Parts of which one must hold.
+pub(crate) fn disjunction(parts: Result<List<SqlCond>, Fault>) -> Result<SqlCond, Fault>
+    ensures { result ≡ formed sql.Or parts }
+{
+    Ok(SqlCond::Or(parts?))
+}
+
+/// A condition that must not hold.
+pub(crate) fn negation(
+    alloc: Global,
+    part: Result<SqlCond, Fault>,
+) -> Result<Result<SqlCond, Fault>, Memory>
+    ensures { IfOk result (λ cond. cond ≡ formed sql.Not part) }
+{
+    match part {
+        Ok(part) => Ok(Ok(SqlCond::Not(Boxed::new(alloc, part)?))),
+        Err(fault) => Ok(Err(fault)),
+    }
+}
+
+/// A test for NULL.
+pub(crate) fn is_null(negated: bool, a: FoundScalar) -> Result<SqlCond, Fault>
+    ensures { result ≡ formed (sql.IsNull negated) a.tree }
+{
+    Ok(SqlCond::IsNull(negated, a.tree?))
+}
+
+/// The condition of a WHERE that is written.
+pub(crate) fn some_cond(part: Result<SqlCond, Fault>) -> Result<Option<SqlCond>, Fault>
+    ensures { result ≡ formed Some part }
+{
+    Ok(Some(part?))
 }

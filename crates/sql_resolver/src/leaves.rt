@@ -4,7 +4,6 @@ ghost use Rattle.std.specs.Prelude.{◌≡◌, Err, IfOk, MatchOption, None, Ok,
 ghost use Rattle.std.specs.Option.{option_map};
 ghost use Rattle.sql_tree.specs.declared.tree.SqlScalar.{Column};
 ghost use Rattle.sql_resolver.specs.Found.{capped, found_scalar};
-ghost use Rattle.sql_resolver.specs.Levels.{scopes_of};
 ghost use Rattle.sql_resolver.specs.NamesMeant.{places_of};
 ghost use Rattle.sql_resolver.specs.Owed.{fault};
 ghost use Rattle.sql_resolver.specs.Reading.{column_reading, literal_reading};
@@ -28,20 +27,25 @@ const AMBIGUOUS_COLUMN: u16 = 304;
 pub(crate) const SHORT_BOUND: u128 = 999_999_999_999_999_999;
 
 /// The column of a place, if it is there.
-fn column_at<'s>(levels: &[Level<'s>], place: SqlPlace) -> Option<&'s ScopeColumn>
+fn column_at(levels: &[Level], place: SqlPlace) -> Option<&ScopeColumn>
     ensures { MatchOption result
-        (scope.column_at (scopes_of levels.now) place ≡ scope.no_column)
-        (λ column. scope.column_at (scopes_of levels.now) place ≡ column.now) }
+        (scope.column_at levels.now place ≡ scope.no_column)
+        (λ column. scope.column_at levels.now place ≡ column.now) }
 {
     let level = levels.get(place.up as usize)?;
-    let item = level.items.get(place.item as usize)?;
+    let item = level.items().get(place.item as usize)?;
     item.columns.as_slice().get(place.column as usize)
 }
 
 /// A column whose name has no single meaning.
 fn no_column(name: &NameTree, part: Text, code: u16) -> FoundScalar
-    ensures { result ≡ record { at = name.now.at; domain = None; bound = None;
-        own_name = Some part; tree = Err (fault code name.now.at) } }
+    ensures { result ≡ record {
+      at = name.now.at;
+      domain = None;
+      bound = None;
+      own_name = Some part;
+      tree = Err (fault code name.now.at);
+    } }
 {
     let fault = Fault {
         at: name.at,
@@ -57,11 +61,14 @@ fn no_column(name: &NameTree, part: Text, code: u16) -> FoundScalar
 }
 
 /// A column by its place.
-fn column_of(name: &NameTree, part: Text, levels: &[Level<'_>], place: SqlPlace) -> FoundScalar
-    ensures { result ≡ record { at = name.now.at;
-        domain = (scope.column_at (scopes_of levels.now) place).domain;
-        bound = option_map capped (scope.column_at (scopes_of levels.now) place).bound;
-        own_name = Some part; tree = Ok (Column place) } }
+fn column_of(name: &NameTree, part: Text, levels: &[Level], place: SqlPlace) -> FoundScalar
+    ensures { result ≡ record {
+      at = name.now.at;
+      domain = (scope.column_at levels.now place).domain;
+      bound = option_map capped (scope.column_at levels.now place).bound;
+      own_name = Some part;
+      tree = Ok (Column place);
+    } }
 {
     match column_at(levels, place) {
         Some(column) => FoundScalar {
@@ -85,11 +92,11 @@ fn column_of(name: &NameTree, part: Text, levels: &[Level<'_>], place: SqlPlace)
 pub(crate) fn column(
     alloc: Global,
     name: &NameTree,
-    levels: &[Level<'_>],
+    levels: &[Level],
 ) -> Result<FoundScalar, Memory>
     ensures { IfOk result (λ found. found ≡ found_scalar
-        (column_reading name.now (scopes_of levels.now)
-        (places_of name.now.first name.now.second 0 (scope.names_in (scopes_of levels.now))))) }
+        (column_reading name.now levels.now
+        (places_of name.now.first name.now.second 0 (scope.names_in levels.now)))) }
 {
     let part = Text::of(alloc, column_part(name))?;
     let places = places_of(alloc, name, levels)?;
@@ -112,14 +119,14 @@ fn narrow(n: i128) -> Result<i64, Memory>
 }
 
 /// A literal without a column's name.
-fn literal_of(
-    at: u32,
-    domain: Option<Domain>,
-    bound: Option<u128>,
-    tree: SqlScalar,
-) -> FoundScalar
-    ensures { result ≡ record { at = at; domain = domain; bound = bound; own_name = None;
-        tree = Ok tree } }
+fn literal_of(at: u32, domain: Option<Domain>, bound: Option<u128>, tree: SqlScalar) -> FoundScalar
+    ensures { result ≡ record {
+      at = at;
+      domain = domain;
+      bound = bound;
+      own_name = None;
+      tree = Ok tree;
+    } }
 {
     FoundScalar {
         at,

@@ -6,7 +6,14 @@
 mod conds;
 mod fault;
 mod found;
+mod from;
 mod leaves;
+mod order;
 mod outputs;
+mod query;
+mod resolver;
 mod scalars;
 mod scope;
+mod statements;
+
+pub use statements::{ResolveFault, resolve};

@@ -20,7 +20,7 @@ const TEXT_IN_SUM: u16 = 305;
 const TOO_LARGE: u16 = 401;
 
 /// The greatest bound that a sum may have.
-const MAX_BOUND: u128 = 1_000_000_000_000_000_000_000_000_000_000_000_000;
+pub(crate) const MAX_BOUND: u128 = 1_000_000_000_000_000_000_000_000_000_000_000_000;
 
 /// The bound, at most one above the greatest.
 pub(crate) fn capped(bound: Option<u128>) -> Option<u128>
@@ -138,10 +138,7 @@ fn place_of_terms(terms: &[FoundTerm]) -> u32
 }
 
 /// A sum without its terms that exceed the greatest bound.
-fn sum_tree(
-    terms: Result<List<SumTerm>, Fault>,
-    above: Option<Fault>,
-) -> Result<SqlScalar, Fault>
+fn sum_tree(terms: Result<List<SumTerm>, Fault>, above: Option<Fault>) -> Result<SqlScalar, Fault>
     ensures { result ≡ found.sum_tree terms above }
 {
     match terms {

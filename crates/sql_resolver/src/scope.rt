@@ -4,8 +4,9 @@ ghost use Rattle.std.specs.Prelude.{◌≡◌, ◌∷◌, ◌++◌, IfOk, None, 
 ghost use Rattle.std.specs.Str.{bytes_eq};
 ghost use Rattle.std.specs.List.{list_any};
 ghost use Rattle.sql_tree.specs.declared.tree.SqlPlace.{SqlPlace};
-ghost use Rattle.sql_resolver.specs.Levels.{column_names, places_among, scopes_of};
+ghost use Rattle.sql_resolver.specs.Levels.{column_names, places_among};
 ghost use Rattle.sql_resolver.specs.NamesMeant.{column_part, decides, is_asked, is_called, places_in, places_of};
+ghost use Rattle.sql_resolver.specs.Reading.{own_scope};
 ghost use Rattle.sql_resolver.specs.Scope.{names_in, scope_names};
 
 use prefsql_values::{Domain, List, Memory, Text};
@@ -13,6 +14,7 @@ use query_tree::NameTree;
 use sql_tree::SqlPlace;
 use std::alloc::Global;
 use std::marker::Model;
+use std::rc::Rc;
 
 /// A column of a FROM item: its name, what it holds, and a bound of its numbers.
 #[derive(Debug, Drop)]
@@ -45,26 +47,72 @@ impl Model for ScopeItem {
     ghost view = { λ i. record { name = i.name; columns = i.columns } };
 }
 
-/// The FROM items of a query.
-#[derive(Clone, Copy)]
-pub(crate) struct Level<'s> {
-    pub(crate) items: &'s [ScopeItem],
+/// The FROM items of a query, which the queries in it share.
+#[derive(Debug, Drop)]
+pub struct Level {
+    items: Rc<List<ScopeItem>>,
+}
+
+impl Model for Level {
+    ghost use Rattle.sql_resolver.specs.Scope as scope;
+
+    ghost Value = { scope.Scope };
+
+    ghost view = { λ level. level.items.value };
+}
+
+impl Level {
+    /// The level of these items.
+    fn of(alloc: Global, items: List<ScopeItem>) -> Result<Level, Memory>
+        ensures { IfOk result (λ level. level ≡ items) }
+    {
+        match Rc::new(alloc, items) {
+            Ok(items) => Ok(Level { items }),
+            Err(_) => Err(Memory),
+        }
+    }
+
+    /// The same level, whose items are not copied.
+    fn share(&self) -> Result<Level, Memory>
+        ensures { IfOk result (λ level. level ≡ self.now) }
+    {
+        Ok(Level {
+            items: self.items.clone()?,
+        })
+    }
+
+    /// The items.
+    pub(crate) fn items(&self) -> &[ScopeItem]
+        ensures { result.now ≡ self.now }
+    {
+        self.items.as_ref().as_slice()
+    }
 }
 
 /// The levels within a query that has these FROM items and stands in these levels, the innermost first.
-pub(crate) fn within<'s>(
+pub(crate) fn within(
     alloc: Global,
-    items: &'s [ScopeItem],
-    levels: &[Level<'s>],
-) -> Result<Vec<Level<'s>>, Memory>
-    ensures { IfOk result (λ inner. scopes_of inner.items ≡ items.now ∷ scopes_of levels.now) }
+    items: List<ScopeItem>,
+    levels: &[Level],
+) -> Result<Vec<Level>, Memory>
+    ensures { IfOk result (λ inner. inner.items ≡ items ∷ levels.now) }
 {
     let mut inner = Vec::new(alloc);
-    inner.push(Level { items })?;
+    inner.push(Level::of(alloc, items)?)?;
     for level in levels {
-        inner.push(*level)?;
+        inner.push(level.share()?)?;
     }
     Ok(inner)
+}
+
+/// The items of the innermost level.
+pub(crate) fn own_items(levels: &[Level]) -> &[ScopeItem]
+    ensures { result.now ≡ own_scope levels.now }
+{
+    match levels.first() {
+        Some(level) => level.items(),
+        None => &[],
+    }
 }
 
 /// The number in a place, or want of room where it is too large for one.
@@ -188,14 +236,18 @@ fn push_places(
 }
 
 /// The columns that the name can mean.
-pub(crate) fn places_of(alloc: Global, name: &NameTree, levels: &[Level<'_>]) -> Result<Vec<SqlPlace>, Memory>
+pub(crate) fn places_of(
+    alloc: Global,
+    name: &NameTree,
+    levels: &[Level],
+) -> Result<Vec<SqlPlace>, Memory>
     ensures { IfOk result (λ places. places.items
-        ≡ places_of name.now.first name.now.second 0 (names_in (scopes_of levels.now))) }
+        ≡ places_of name.now.first name.now.second 0 (names_in levels.now)) }
 {
     let mut places = Vec::new(alloc);
     for (up, level) in levels.iter().enumerate() {
-        if decides(name, level.items) {
-            push_places(&mut places, narrow(up)?, name, level.items)?;
+        if decides(name, level.items()) {
+            push_places(&mut places, narrow(up)?, name, level.items())?;
             return Ok(places);
         }
     }

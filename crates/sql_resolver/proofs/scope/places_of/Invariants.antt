@@ -1,12 +1,11 @@
 use Rattle.std.proofs.Common.{◌≡◌, [], drop}
 use Rattle.sql_resolver.specs.NamesMeant.{places_of}
-use Rattle.sql_resolver.specs.Levels.{scopes_of}
 use Rattle.sql_resolver.specs.Scope.{names_in}
 use Rattle.sql_resolver.proofs.scope.places_of.Given as goal
 
 abbrev pub invariant-loop-up : goal.invariant-loop-up
 invariant-loop-up l = record {
   none : l.places.items ≡ [];
-  rest : places_of l.name.first l.name.second l.up (names_in (scopes_of (drop l.up l.levels)))
-      ≡ places_of l.name.first l.name.second 0 (names_in (scopes_of l.levels));
+  rest : places_of l.name.first l.name.second l.up (names_in (drop l.up l.levels))
+      ≡ places_of l.name.first l.name.second 0 (names_in l.levels);
 }
