@@ -1,7 +1,6 @@
 -- A query without faults has no column whose bound is above the greatest.
-use Rattle.std.proofs.Common.{◌≡◌, ℕ, ◌+◌, ◌≤◌, nat_le, nat_lt, zero, suc, Bool, true, false, ◌&&◌, cond, get_or, Option, Some, None, List, [], ◌∷◌, ◌++◌, map, max, ⊎_elim, refl, sym, ap, subst, ◌∙◌, arith}
+use Rattle.std.proofs.Common.{◌≡◌, ℕ, ◌+◌, ◌≤◌, nat_le, nat_lt, zero, suc, Bool, true, false, ◌&&◌, cond, Option, Some, None, List, [], ◌∷◌, ◌++◌, map, max, ⊎_elim, refl, sym, ap, subst, ◌∙◌, arith}
 use Rattle.std.specs.Prelude.{slice_index_or}
-use Rattle.std.specs.List.{flat_map}
 use Rattle.std.proofs.lemmas.Bool.{cases_Bool}
 use Rattle.std.proofs.lemmas.Bool.Decides.{nat_tests}
 use Rattle.prefsql_lexer.specs.declared.fault.Spot.{Spot}
@@ -12,22 +11,21 @@ use Rattle.prefsql_values.specs.declared.value.Domain.TheVariants.{Integer, Char
 use Rattle.prefsql_tables.specs.declared.schema.Column.{Column}
 use Rattle.query_tree.specs.declared.name.NameTree.{NameTree}
 use Rattle.sql_tree.specs.declared.tree.SqlPlace.{SqlPlace}
-use Rattle.sql_resolver.specs.Scope.{Scope, ScopeColumn, ScopeItem, Scopes, column_at, no_column, no_scope_item}
+use Rattle.sql_resolver.specs.Scope.{Scope, ScopeColumn, Scopes, column_at, no_column, no_scope_item}
 use Rattle.sql_resolver.specs.Owed.{Fault, both_bounds, either_spot, fault, first_spot, max_bound}
-use Rattle.sql_resolver.specs.Reading.{ItemReading, OutputReading, ScalarReading, TermReading, WhenReading, all_columns, bound_faults, bound_step, column_reading, columns_from, faults_if, greatest_bound, literal_reading, outputs_from, own_scope, results_of, sum_bound, table_column}
-use Rattle.sql_resolver.specs.Found.{is_small, is_within}
+use Rattle.sql_resolver.specs.Reading.{OutputReading, TermReading, all_columns, bound_faults, bound_step, column_reading, columns_from, literal_reading, own_scope, sum_bound, table_column}
 
 -- ---- tests and lists
 
-and_left : (a b : Bool) → (a && b) ≡ true → a ≡ true
+pub and_left : (a b : Bool) → (a && b) ≡ true → a ≡ true
 and_left true b h = refl
 and_left false b h = h
 
-and_right : (a b : Bool) → (a && b) ≡ true → b ≡ true
+pub and_right : (a b : Bool) → (a && b) ≡ true → b ≡ true
 and_right true b h = h
 and_right false b h = absurd (let nope : ⊥ = cc in nope)
 
-both_true : (a b : Bool) → a ≡ true → b ≡ true → (a && b) ≡ true
+pub both_true : (a b : Bool) → a ≡ true → b ≡ true → (a && b) ≡ true
 both_true true b h k = k
 both_true false b h k = h
 
@@ -40,6 +38,15 @@ nil_right [] ys e = e
 nil_right (x ∷ xs) ys e = absurd (let nope : ⊥ = cc in nope)
 
 -- ---- scopes
+
+abbrev pub is_small : Option ℕ → Bool
+is_small None = true
+is_small (Some bound) = nat_le bound max_bound
+
+-- no column has a bound above the greatest
+abbrev pub is_within : List ScopeColumn → Bool
+is_within [] = true
+is_within (column ∷ more) = is_small column.bound && is_within more
 
 abbrev pub small_scope : Scope → Bool
 small_scope [] = true

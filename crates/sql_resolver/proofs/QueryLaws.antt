@@ -1,5 +1,5 @@
 -- What is found of FROM items, output columns and queries, by what is found of their parts.
-use Rattle.std.proofs.Common.{◌≡◌, ℕ, ◌+◌, nat_le, Bool, true, false, ◌&&◌, ◌||◌, cond, rules, Option, Some, None, List, [], ◌∷◌, ◌++◌, map, Result, Ok, refl, sym, ap, ◌∙◌, arith}
+use Rattle.std.proofs.Common.{◌≡◌, ℕ, ◌+◌, nat_le, Bool, true, false, ◌||◌, cond, rules, Option, Some, None, List, [], ◌∷◌, ◌++◌, map, Result, Ok, refl, sym, ap, ◌∙◌, arith}
 use Rattle.std.specs.List.{flat_map, list_any}
 use Rattle.std.specs.Option.{option_map}
 use Rattle.std.specs.Str.{bytes_eq}
@@ -30,7 +30,9 @@ use Rattle.sql_resolver.specs.Scope.{ScopeColumn, ScopeItem, Scopes}
 use Rattle.sql_resolver.specs.Owed.{Fault, either_spot, fault, fault_if, first_spot, inner_faults, max_bound}
 use Rattle.sql_resolver.specs.Outcomes.{all_of, also, earlier_if, first_fault, outcome}
 use Rattle.sql_resolver.specs.Reading.{CondReading, FromReading, In, ItemReading, OutputReading, all_columns, cond_faults, cond_reading, cond_step, cond_tree, filter_of, from_reading, from_step, item_reading, item_step, output_of, outputs_from, own_scope, query_reading, query_step, repeated, scalar_reading, scalar_step, select_reading, select_step, table_reading, term_reading, term_step, when_reading, when_step}
-use Rattle.sql_resolver.specs.Found.{capped, capped_column, cond_found, derived, derived_item, filter_found, first_repeated, found_from, found_output, found_query, found_scalar, from_found, from_items, has_small_columns, in_turn, is_small, is_within, output, outputs_found, outputs_of, query_found, scalar_found, selected, selected_in, selected_of, spotted, unless_spot}
+use Rattle.sql_resolver.specs.Found.{capped, capped_column, cond_found, derived, derived_item, filter_found, first_repeated, found_from, found_output, found_query, found_scalar, from_found, from_items, in_turn, output, outputs_found, outputs_of, query_found, scalar_found, selected, selected_in, selected_of, spotted, unless_spot}
+use Rattle.sql_resolver.proofs.Bounded.{and_left, and_right, is_small, is_within}
+use Rattle.sql_resolver.proofs.BoundedQueries.{query_small}
 use Rattle.sql_resolver.proofs.OutcomeLaws.{first_fault_append, outcome_also, outcome_each, outcome_form}
 use Rattle.sql_resolver.proofs.CondLaws.{tested}
 
@@ -42,45 +44,36 @@ found-Table tables tree =
     ap (from_found tables) (sym (rolls-Table tree))
     ∙ (λ j. found_from (fold-roll-NamedFrom _ _ _ _ _ _ _ _ cond_step (from_step tables) scalar_step select_step item_step (query_step tables) term_step when_step (NamedFrom-F.Table tree) j))
 
-and_left : (a b : Bool) → (a && b) ≡ true → a ≡ true
-and_left true b h = refl
-and_left false b h = h
-
-and_right : (a b : Bool) → (a && b) ≡ true → b ≡ true
-and_right true b h = h
-and_right false b h = absurd (let nope : ⊥ = cc in nope)
-
-uncapped : (n : ℕ) → nat_le (capped n) max_bound ≡ true → capped n ≡ n
+uncapped : (n : ℕ) → nat_le n max_bound ≡ true → capped n ≡ n
 uncapped n h = grind (arith, nat_tests)
 
-small_same : (bound : Option ℕ) → is_small (option_map capped bound) ≡ true → option_map capped bound ≡ bound
+small_same : (bound : Option ℕ) → is_small bound ≡ true → option_map capped bound ≡ bound
 small_same None h = refl
 small_same (Some n) h = ap Some (uncapped n h)
 
-within_same : (columns : List ScopeColumn) → is_within (map capped_column columns) ≡ true → map capped_column columns ≡ columns
+within_same : (columns : List ScopeColumn) → is_within columns ≡ true → map capped_column columns ≡ columns
 within_same [] h = refl
 within_same (column ∷ more) h =
-    let bound = small_same column.bound (and_left (is_small (option_map capped column.bound)) (is_within (map capped_column more)) h) in
-    let rest = within_same more (and_right (is_small (option_map capped column.bound)) (is_within (map capped_column more)) h) in
+    let bound = small_same column.bound (and_left (is_small column.bound) (is_within more) h) in
+    let rest = within_same more (and_right (is_small column.bound) (is_within more) h) in
     λ j. record { name = column.name; domain = column.domain; bound = bound j } ∷ rest j
 
 derived_by : (at : ℕ) (tree : SqlQuery) (columns : List ScopeColumn) (first : Option Spot) (name : List ℕ)
-    → has_small_columns (unless_spot (record { tree = tree; columns = map capped_column columns }) first) ≡ true
+    → (first ≡ None → is_within columns ≡ true)
     → outcome {A = SqlFrom × ScopeItem} (record { name = name; source = source.Derived tree }, record { name = name; columns = columns }) (inner_faults at first)
     ≡ derived_item at (unless_spot (record { tree = tree; columns = map capped_column columns }) first) name
 derived_by at tree columns None name h =
-    λ j. Ok (record { name = name; source = source.Derived tree }, record { name = name; columns = sym (within_same columns h) j })
+    λ j. Ok (record { name = name; source = source.Derived tree }, record { name = name; columns = sym (within_same columns (h refl)) j })
 derived_by at tree columns (Some spot) name h = refl
 
 pub found-Derived : (tables : Tables) (query : NamedQuery) (name : List ℕ) (name_at : ℕ)
-    → has_small_columns (query_found tables query []).selected ≡ true
     → from_found tables (Derived query name name_at) ≡ derived (query_found tables query []) name name_at
 unfolding from_found query_found cond_reading from_reading scalar_reading select_reading item_reading query_reading term_reading when_reading
-found-Derived tables query name name_at h =
+found-Derived tables query name name_at =
     let r = query_reading tables query [] in
     ap (from_found tables) (sym (rolls-Derived query name name_at))
     ∙ (λ j. found_from (fold-roll-NamedFrom _ _ _ _ _ _ _ _ cond_step (from_step tables) scalar_step select_step item_step (query_step tables) term_step when_step (NamedFrom-F.Derived query name name_at) j))
-    ∙ (λ j. record { name = name; name_at = name_at; item = derived_by r.at r.tree r.columns r.first name h j })
+    ∙ (λ j. record { name = name; name_at = name_at; item = derived_by r.at r.tree r.columns r.first name (query_small tables query [] refl) j })
 
 -- ---- repeated names
 
@@ -231,6 +224,6 @@ found_of_query tables query outer =
       selected = (sym (from_part tables query outer (map pair_of froms) (from_faults froms) part later whole) ∙ ap (selected_in tables query outer) (sym items)) j;
     })
 
-pub ruleset from_rules = (found-Table)
+pub ruleset from_rules = (found-Table, found-Derived)
 
 pub ruleset select_rules = (found-All, found-Items)

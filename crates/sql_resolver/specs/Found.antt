@@ -1,6 +1,6 @@
 -- What is found of each part of a query: what is read of it, with its first fault in place of all,
 -- and a bound above the greatest one as that and one.
-use Rattle.std.specs.Prelude.{ℕ, ◌+◌, ◌++◌, ◌&&◌, Bool, true, nat_le, if◌then◌else◌, nat_lt, List, [], ◌∷◌, map, max, min, Option, Some, None, Result, Ok, Err}
+use Rattle.std.specs.Prelude.{ℕ, ◌+◌, ◌++◌, Bool, if◌then◌else◌, nat_lt, List, [], ◌∷◌, map, max, min, Option, Some, None, Result, Ok, Err}
 use Rattle.std.specs.List.{list_any}
 use Rattle.std.specs.Option.{option_map}
 use Rattle.std.specs.Str.{bytes_eq}
@@ -304,19 +304,6 @@ selected distinct from outputs filter =
     selected_of distinct from (map (λ (output : FoundOutput). output.column) outputs)
     (in_turn (spotted (all_of (map (λ (output : FoundOutput). output.item) outputs)))
     (spotted filter))
-
-abbrev pub is_small : Option ℕ → Bool
-is_small None = true
-is_small (Some bound) = nat_le bound max_bound
-
--- no column has a bound above the greatest
-abbrev pub is_within : List ScopeColumn → Bool
-is_within [] = true
-is_within (column ∷ more) = is_small column.bound && is_within more
-
-abbrev pub has_small_columns : Result Selected Spot → Bool
-has_small_columns (Ok selected) = is_within selected.columns
-has_small_columns (Err spot) = true
 
 -- ---- queries by their clauses
 

@@ -14,7 +14,6 @@ ghost use Rattle.sql_resolver.specs.Reading.{correlation, table_column, table_re
 use crate::fault::{Fault, all_of, also, earlier_if};
 use crate::found::{FoundFrom, FoundQuery, Selected};
 use crate::leaves::SHORT_BOUND;
-use crate::scalars::MAX_BOUND;
 use crate::scope::{ScopeColumn, ScopeItem};
 use prefsql_lexer::Spot;
 use prefsql_tables::{Column, TableSet};
@@ -165,38 +164,6 @@ pub(crate) fn derived(
         name_at,
         item,
     })
-}
-
-/// Whether the bound is at most the greatest.
-fn is_small(bound: Option<u128>) -> bool
-    ensures { result ≡ found.is_small bound }
-{
-    match bound {
-        Some(bound) => bound <= MAX_BOUND,
-        None => true,
-    }
-}
-
-/// Whether no column has a bound above the greatest.
-fn is_within(columns: &[ScopeColumn]) -> bool
-    ensures { result ≡ found.is_within columns.now }
-{
-    for column in columns {
-        if !is_small(column.bound) {
-            return false;
-        }
-    }
-    true
-}
-
-/// Whether no column of the query has a bound above the greatest.
-pub(crate) fn has_small_columns(query: &FoundQuery) -> bool
-    ensures { result ≡ found.has_small_columns query.now.selected }
-{
-    match &query.selected {
-        Ok(selected) => is_within(selected.columns.as_slice()),
-        Err(_) => true,
-    }
 }
 
 /// Whether one of the items has this name.

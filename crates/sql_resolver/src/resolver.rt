@@ -12,7 +12,7 @@ use crate::fault::{Fault, all_of};
 use crate::found::{
     FoundFrom, FoundOutput, FoundQuery, FoundScalar, FoundTerm, FoundWhen, Selected,
 };
-use crate::from::{derived, from_items, has_small_columns, table};
+use crate::from::{derived, from_items, table};
 use crate::leaves::{column, literal};
 use crate::outputs::{all_columns, output};
 use crate::query::{selected, split};
@@ -267,6 +267,7 @@ fn items(
 
 /// A FROM item, which sees no scopes.
 #[cycle(resolve)]
+#[tactic(auto, using(crate::proofs::QueryLaws::from_rules))]
 fn from_item(alloc: Global, tables: &TableSet, item: &NamedFrom) -> Result<FoundFrom, Memory>
     ensures { IfOk result (λ from. from ≡ spec.from_found tables.now item.now) }
 {
@@ -274,11 +275,7 @@ fn from_item(alloc: Global, tables: &TableSet, item: &NamedFrom) -> Result<Found
         NamedFrom::Table(tree) => table(alloc, tables, tree),
         NamedFrom::Derived(inner, name, name_at) => {
             let query = query(alloc, tables, &[], inner.get())?;
-            if has_small_columns(&query) {
-                derived(alloc, query, name, *name_at)
-            } else {
-                Err(Memory)
-            }
+            derived(alloc, query, name, *name_at)
         }
     }
 }

@@ -20,7 +20,7 @@ const TEXT_IN_SUM: u16 = 305;
 const TOO_LARGE: u16 = 401;
 
 /// The greatest bound that a sum may have.
-pub(crate) const MAX_BOUND: u128 = 1_000_000_000_000_000_000_000_000_000_000_000_000;
+const MAX_BOUND: u128 = 1_000_000_000_000_000_000_000_000_000_000_000_000;
 
 /// The bound, at most one above the greatest.
 pub(crate) fn capped(bound: Option<u128>) -> Option<u128>

@@ -1,17 +1,13 @@
-use Rattle.std.proofs.Common.{◌≡◌, [], true, map, IfOk, sym, ap, subst, ◌∙◌}
+use Rattle.std.proofs.Common.{◌≡◌, map, IfOk, sym, ap, subst, ◌∙◌}
 use Rattle.sql_tree.specs.declared.tree.SqlCond as sql
 use Rattle.sql_text.specs.declared.named.NamedCond.{NamedCond}
 use Rattle.sql_text.specs.declared.named.NamedScalar.{NamedScalar}
 use Rattle.sql_text.specs.declared.named.NamedTerm.{NamedTerm}
 use Rattle.sql_text.specs.declared.named.NamedWhen.{NamedWhen}
-use Rattle.sql_text.specs.declared.named.NamedQuery.{NamedQuery}
-use Rattle.sql_resolver.specs.declared.found.FoundFrom.{FoundFrom}
-use Rattle.sql_resolver.specs.declared.found.FoundQuery.{FoundQuery}
 use Rattle.sql_resolver.specs.declared.found.FoundScalar.{FoundScalar}
-use Rattle.sql_resolver.specs.Found.{choice, cond_found, derived, from_found, has_small_columns, query_found, scalar_found, sum_of, term_found, when_found}
+use Rattle.sql_resolver.specs.Found.{choice, cond_found, scalar_found, sum_of, term_found, when_found}
 use Rattle.sql_resolver.specs.Outcomes.{all_of, formed}
 use Rattle.sql_resolver.proofs.Equations.{found-And, found-Case, found-Or, found-Sum}
-use Rattle.sql_resolver.proofs.QueryLaws.{found-Derived, found-Table}
 use Rattle.sql_resolver.proofs.resolver.+resolve.Goals as goal
 
 pub cond_in-returns-in_ok-all_of-in-And : goal.cond_in-returns-in_ok-all_of-in-And
@@ -31,25 +27,6 @@ cond_in-returns-in_ok-all_of-in-Or t c =
     ∙ ap (formed sql.Or) (c.in_ok-all_of-in-Or.ensures ∙ ap all_of (c.in_ok-parts-in-Or.ensures ∙ ap (map (λ (part : NamedCond). cond_found tables part scopes)) c.as_slice-in-Or.ensures))
     ∙ sym (found-Or tables c.in-Or.parts scopes)
     ∙ ap (λ (cond : NamedCond). cond_found tables cond scopes) (sym c.in-Or.is)
-
-pub from_item-returns-in-Table : goal.from_item-returns-in-Table
-from_item-returns-in-Table t c =
-    subst (λ (whole : FoundFrom). IfOk c.table.result (λ from. from ≡ whole))
-    (sym (found-Table c.args.tables.now c.in-Table.tree) ∙ ap (from_found c.args.tables.now) (sym c.in-Table.is))
-    c.table.ensures
-
-pub from_item-returns-then-has_small_columns : goal.from_item-returns-then-has_small_columns
-from_item-returns-then-has_small_columns t c =
-    let tables = c.args.tables.now in
-    let is : c.in_ok-query-in-Derived.query ≡ query_found tables c.in-Derived.inner [] =
-    c.in_ok-query-in-Derived.ensures ∙ ap (λ (query : NamedQuery). query_found tables query []) c.get.ensures in
-    let small : has_small_columns (query_found tables c.in-Derived.inner []).selected ≡ true =
-    ap (λ (query : FoundQuery). has_small_columns query.selected) (sym is) ∙ sym c.has_small_columns.ensures ∙ c.if-has_small_columns.true in
-    subst (λ (whole : FoundFrom). IfOk c.derived.result (λ from. from ≡ whole))
-    (ap (λ (query : FoundQuery). derived query c.in-Derived.name c.in-Derived.name_at) is
-    ∙ sym (found-Derived tables c.in-Derived.inner c.in-Derived.name c.in-Derived.name_at small)
-    ∙ ap (from_found tables) (sym c.in-Derived.is))
-    c.derived.ensures
 
 pub scalar-returns-in_ok-terms-in-Sum : goal.scalar-returns-in_ok-terms-in-Sum
 scalar-returns-in_ok-terms-in-Sum t c =
