@@ -1,5 +1,6 @@
 pub mod OutcomeLaws
 pub mod SumLaws
+pub mod ExampleSchema
 pub mod BoundedQueries
 pub mod Bounded
 pub mod StatementLaws

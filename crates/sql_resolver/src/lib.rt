@@ -15,5 +15,7 @@ mod resolver;
 mod scalars;
 mod scope;
 mod statements;
+#[cfg(test)]
+mod tests;
 
 pub use statements::{ResolveFault, resolve};
