@@ -16,3 +16,4 @@ mod TypedLemmas
 mod TypingLaws
 mod WalkOf
 mod WritingLemmas
+mod WrittenLemmas

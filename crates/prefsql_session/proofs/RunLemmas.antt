@@ -5,7 +5,7 @@ use Rattle.std.specs.List.{flat_map}
 use Rattle.prefsql_session.specs.Counts.{tests_line}
 use Rattle.prefsql_session.specs.Faults.{fault_line}
 use Rattle.prefsql_session.specs.Course.{HasOneEnd}
-use Rattle.prefsql_session.specs.Parts.{IsAskedFor, WritesLine, WritesWork}
+use Rattle.prefsql_session.specs.Parts.{IsAskedFor, IsUtf8Work, WritesLine, WritesWork}
 use Rattle.prefsql_session.specs.Run.{AtEnd, FallsShort, Finishes, FinishesAt, GetsAll, GetsFront, IsDueAt, IsDueOf, IsDueSoFar, IsDueSoFarAt, IsDueSoFarOf, IsDueWith, IsGood, IsTextAt, IsTextOf, WritesDue, WritesText}
 use Rattle.prefsql_session.specs.Stage.{Stage, untold, barred, unaccepted, missing, faulty, ready, MayGive, MayHaveFault}
 use Rattle.prefsql_session.specs.Texts.{text_of}
@@ -162,6 +162,9 @@ module _ (Course : Stage Work → Type 0) (asked : Option Command) (work : Work)
   pub worked_counted : (result : Status) → result ≡ Done → Wrote result → AtEnd Course (λ stage. FinishesAt stage err_old err_new start end)
   worked_counted result done wrote =
       let made = subst Wrote done wrote in (at.0, at.1, finishes_at at.0 work err_old err_new start end at.2 made.1)
+
+  pub worked_utf8 : (result : Status) → result ≡ Done → Wrote result → IsUtf8Work work
+  worked_utf8 result done wrote = let made = subst Wrote done wrote in made.2
 
 -- ---- a run that is refused
 

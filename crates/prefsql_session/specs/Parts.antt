@@ -20,6 +20,8 @@ use Rattle.prefsql_session.specs.declared.command.Command.{Command}
 use Rattle.prefsql_session.specs.declared.command.Command.TheVariants.{OnScript}
 use Rattle.prefsql_session.specs.declared.command.Command.TheVariants as command
 use Rattle.prefsql_session.specs.declared.command.Task.{Task}
+use Rattle.prefsql_session.specs.declared.command.Task.TheVariants.{Show}
+use Rattle.prefsql_session.specs.Written.{AreUtf8}
 use Rattle.prefsql_session.specs.declared.fault.Fault.TheVariants.{Script}
 use Rattle.prefsql_session.specs.declared.fault.Stop.{Stop}
 use Rattle.prefsql_session.specs.declared.fault.Stop.TheVariants as stop
@@ -81,12 +83,18 @@ module _ (Wanted : List ℕ → Type 0) (done : Status) (before now : ℕ) (old 
   abbrev pub WritesLine : Type 0
   WritesLine = ((result ≡ done) × GetsAll Wanted old new) ⊎ (((result ≡ WriteFault) × FallsShort Wanted before now old new) ⊎ ((result ≡ Memory) × Keeps old new))
 
+-- its SQL texts are UTF-8
+abbrev pub IsUtf8Work : Work → Type 0
+IsUtf8Work (Statements (Show shown) tables blocks) = AreUtf8 shown blocks
+IsUtf8Work work = ⊤
+
 -- what a body that writes the texts of this work to `out`, and what is due beside them to `err`, may
 -- answer, where so many steps were made before and after
 module _ (work : Work) (before now : ℕ) (old new : Option (List ℕ))
     (err_before err_now : ℕ) (err_old err_new : Option (List ℕ)) (start end : ℕ) where
   abbrev pub WritesWork : Status → Type 0
-  WritesWork Done = GetsAll (λ text. text ≡ text_of work) old new × Finishes work err_old err_new start end
+  WritesWork Done =
+      GetsAll (λ text. text ≡ text_of work) old new × Finishes work err_old err_new start end × IsUtf8Work work
   WritesWork WriteFault =
       (FallsShort (λ text. text ≡ text_of work) before now old new × GetsFront (IsDueSoFar work) err_old err_new)
       ⊎ (GetsFront (λ text. text ≡ text_of work) old new × FallsShort (IsDueSoFar work) err_before err_now err_old err_new)

@@ -6,6 +6,7 @@ ghost use Rattle.prefsql_session.specs.Course.{Comes, HasOneEnd};
 ghost use Rattle.prefsql_session.specs.Faults.{fault_line, usage_line};
 ghost use Rattle.prefsql_session.specs.Opening.{opening};
 ghost use Rattle.prefsql_session.specs.Stage.{missing};
+ghost use Rattle.prefsql_session.specs.Written.{IsWrittenAt};
 
 use crate::fault::{Fault, Stop, USAGE};
 use crate::fault_line::fault_line;
@@ -97,6 +98,10 @@ pub fn run<S: Source, O: Sink, E: Sink, H: Shelf, L: Ledger>(
         (E.written err.old) (E.written err.new) }
     ensures read_whole { result ≡ Status.Done → AsksForScript (accepted words.now) → IsAtEnd (S.left script.new) }
     ensures unread { (AsksForScript (accepted words.now) → ⊥) → S.left script.new ≡ S.left script.old }
+
+    // The SQL texts read back, over all tables with these columns, as queries that mean the same.
+    ensures written { result ≡ Status.Done
+        → AtEnd (Comes words.now (H.files shelf.old) (S.left script.old)) IsWrittenAt }
 
     // An answer takes from one to eight steps a test, and so many tests as its plan needs at least and
     // may take at most. Where they are asked for, the counts stand on `err`.

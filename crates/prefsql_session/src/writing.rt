@@ -1,5 +1,5 @@
 //! What a run writes at its good end.
-ghost use Rattle.std.specs.Prelude.{◌≡◌, ℕ, List, All, IfOk, OnOk, IsErrOf};
+ghost use Rattle.std.specs.Prelude.{◌≡◌, ℕ, List, [], ◌∷◌, All, IfOk, OnOk, IsErrOf, IsUtf8};
 ghost use Rattle.std.specs.Io.KnownBytes.{Appends, Keeps};
 ghost use Rattle.std.specs.List.{flat_map};
 ghost use Rattle.prefsql_io.specs.Counts.{HasCause};
@@ -18,6 +18,7 @@ ghost use Rattle.prefsql_session.specs.Counts.{Takes};
 ghost use Rattle.prefsql_session.specs.Parts.{WritesTask, WritesWork};
 ghost use Rattle.prefsql_session.specs.Run.{GetsFront};
 ghost use Rattle.prefsql_session.specs.Texts.{HasTexts, IsAnswerable, IsBenchCount, shown_text};
+ghost use Rattle.prefsql_session.specs.Written.{AreUtf8};
 
 use crate::answering::write_answers;
 use crate::benching::summary;
@@ -50,7 +51,8 @@ fn explained(alloc: Global, block: &Block) -> Result<Vec<u8>, Memory>
 // The SQL query of a statement.
 fn written(alloc: Global, block: &Block) -> Result<Vec<u8>, Memory>
     requires { IsValidBlock block.now }
-    ensures { IfOk result (λ text. text.items ≡ sql.text_of (rewritten block.now)) }
+    ensures text { IfOk result (λ text. text.items ≡ sql.text_of (rewritten block.now)) }
+    ensures utf8 { OnOk result (IsUtf8 (sql.text_of (rewritten block.now))) }
 {
     let query = rewrite(alloc, block)?;
     write_sql(alloc, &query)
@@ -76,7 +78,8 @@ fn shown_text(
     block: &Block,
 ) -> Result<Vec<u8>, Memory>
     requires { IsAnswerable tables.now block.now }
-    ensures { IfOk result (λ text. text.items ≡ shown_text shown tables.now block.now) }
+    ensures text { IfOk result (λ text. text.items ≡ shown_text shown tables.now block.now) }
+    ensures utf8 { OnOk result (AreUtf8 shown (block.now ∷ [])) }
 {
     match shown {
         Shown::Plan => explained(alloc, block),
@@ -95,6 +98,7 @@ fn write_shown<O: Sink>(
 ) -> Result<(), Halt>
     requires { IsAnswerable tables.now block.now }
     ensures all { OnOk result (Appends (O.written out.old) (O.written out.new) (shown_text shown tables.now block.now)) }
+    ensures utf8 { OnOk result (AreUtf8 shown (block.now ∷ [])) }
     ensures less { IsErrOf result Halt.WriteFault
         → AppendsLess (O.written out.old) (O.written out.new) (shown_text shown tables.now block.now) }
     ensures kept { IsErrOf result Halt.Memory → Keeps (O.written out.old) (O.written out.new) }
@@ -117,6 +121,7 @@ fn write_all_shown<O: Sink>(
     requires { All (IsAnswerable tables.now) blocks.now }
     ensures all { OnOk result (Appends (O.written out.old) (O.written out.new)
         (flat_map (shown_text shown tables.now) blocks.now)) }
+    ensures utf8 { OnOk result (AreUtf8 shown blocks.now) }
     ensures less { IsErrOf result Halt.WriteFault → AppendsLess (O.written out.old) (O.written out.new)
         (flat_map (shown_text shown tables.now) blocks.now) }
     ensures front { IsErrOf result Halt.Memory

@@ -1,7 +1,8 @@
 use Rattle.prefsql_session.specs.CommandLine.{accepted}
 use Rattle.prefsql_session.specs.Course.{Comes}
 use Rattle.prefsql_session.proofs.OneEnd.{one_end}
-use Rattle.prefsql_session.proofs.RunLemmas.{refused_due, refused_unready, usage_unready, worked_counted, worked_due, worked_short, worked_text}
+use Rattle.prefsql_session.proofs.RunLemmas.{refused_due, refused_unready, usage_unready, worked_counted, worked_due, worked_short, worked_text, worked_utf8}
+use Rattle.prefsql_session.proofs.WrittenLemmas.{well_written}
 use Rattle.prefsql_session.proofs.session.run.Goals as goal
 
 pub returns-in-Ok-clause-text : goal.returns-in-Ok-clause-text
@@ -39,6 +40,16 @@ returns-in-Ok-clause-counted g c = λ done.
     (g.E.Sink.faults c.args.err.now) (g.E.Sink.faults c.write_work.new.err) (g.E.Sink.written c.args.err.now) (g.E.Sink.written c.write_work.new.err)
     c.args.steps.now c.write_work.new.steps
     c.write_work.result done c.write_work.ensures.wrote
+
+pub returns-in-Ok-clause-written : goal.returns-in-Ok-clause-written
+returns-in-Ok-clause-written g c = λ done.
+    well_written c.args.words.now (g.H.Shelf.files c.args.shelf.now) (g.S.Source.left c.args.script.now) c.in-Ok.work c.in-Ok.ensures.follows
+    (worked_utf8 (Comes c.args.words.now (g.H.Shelf.files c.args.shelf.now) (g.S.Source.left c.args.script.now)) (accepted c.args.words.now) c.in-Ok.work
+    c.in-Ok.ensures.follows c.in-Ok.ensures.asked
+    (g.O.Sink.faults c.args.out.now) (g.O.Sink.faults c.write_work.new.out) (g.O.Sink.written c.args.out.now) (g.O.Sink.written c.write_work.new.out)
+    (g.E.Sink.faults c.args.err.now) (g.E.Sink.faults c.write_work.new.err) (g.E.Sink.written c.args.err.now) (g.E.Sink.written c.write_work.new.err)
+    c.args.steps.now c.write_work.new.steps
+    c.write_work.result done c.write_work.ensures.wrote)
 
 pub returns-in-Err-Refused-clause-due : goal.returns-in-Err-Refused-clause-due
 returns-in-Err-Refused-clause-due g c =
