@@ -1,5 +1,5 @@
 -- The columns of the tests' table are valid.
-use Rattle.std.proofs.Common.{zero, suc, true, false, List, [], ◌∷◌, All, arith, codes, lit≤}
+use Rattle.std.proofs.Common.{zero, suc, false, List, [], ◌∷◌, All, arith, codes, lit≤}
 use Rattle.std.specs.Str.{chars}
 use Rattle.std.proofs.lemmas.Bool.{false≢true}
 use Rattle.std.proofs.lemmas.Slice.Eq.{bytes_eq-Decides}

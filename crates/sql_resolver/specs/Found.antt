@@ -265,7 +265,8 @@ first_repeated before (from ∷ more) =
     (first_repeated (before ++ from.name ∷ []) more)
 
 abbrev pub from_items : List FoundFrom → Result (List (SqlFrom × ScopeItem)) Fault
-from_items froms = also (all_of (map (λ (from : FoundFrom). from.item) froms)) (first_repeated [] froms)
+from_items froms =
+    also (all_of (map (λ (from : FoundFrom). from.item) froms)) (first_repeated [] froms)
 
 -- ---- queries
 

@@ -89,7 +89,8 @@ impl Level {
     }
 }
 
-/// The levels within a query that has these FROM items and stands in these levels, the innermost first.
+/// The levels within a query that has these FROM items and stands in these levels, the innermost
+/// first.
 pub(crate) fn within(
     alloc: Global,
     items: List<ScopeItem>,

@@ -17,7 +17,8 @@ use sql_text::NamedStatement;
 use sql_tree::SqlQuery;
 use std::alloc::Global;
 
-/// Why there are no queries: the first thing that a statement owes and does not keep, or want of memory.
+/// Why there are no queries: the first thing that a statement owes and does not keep, or want of
+/// memory.
 #[derive(Clone, Copy, Debug, PartialEq, Eq)]
 pub enum ResolveFault {
     /// E301 to E305, E314 to E316 and E401, with its place.
