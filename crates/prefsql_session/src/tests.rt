@@ -3,4 +3,5 @@ mod answers;
 mod case;
 mod devices;
 mod faults;
+mod kinds;
 mod texts;
