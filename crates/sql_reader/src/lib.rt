@@ -3,6 +3,10 @@
 //! SQL-92 (ISO/IEC 9075:1992).
 #![tactic(auto)]
 
+mod fault;
 mod laws;
+mod reading;
 
+pub use fault::SqlFault;
 pub use laws::one_reading_law;
+pub use reading::read_sql;
