@@ -5,3 +5,8 @@ pub mod TablesNamed
 pub mod FaultsNone
 pub mod Scripts
 pub mod Fitting
+pub mod JudgedParts
+pub mod ColumnsMeant
+pub mod FormedScalars
+pub mod FormedChoices
+pub mod FormedConditions
