@@ -289,7 +289,7 @@ module _ (tables : Tables) where
       (λ e. subst Stand (sym (tables_from_is (record { name = name; source = Derived r.tree }) ∙ (ap tables_source (sym (views.rolls-Derived r.tree)) ∙ tables-Derived r.tree))) (is [] (inner_none r.at r.first e)))
 
   -- the table of this name stands where it is found
-  found_there : (name : List ℕ) (index : ℕ) → table_place tables name ≡ Some index → IsTableOf tables (record { index = index; name = name; schema = record { columns = columns_of tables index } })
+  pub found_there : (name : List ℕ) (index : ℕ) → table_place tables name ≡ Some index → IsTableOf tables (record { index = index; name = name; schema = record { columns = columns_of tables index } })
   found_there name index e =
       let p : NamedTable → Bool = λ named. bytes_eq name named.name in
       let n = position_or_len p tables in

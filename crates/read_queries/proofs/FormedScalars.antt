@@ -60,7 +60,7 @@ path_name : (first : List ℕ) (second : Option (List ℕ)) → IsName first →
 path_name first None is w = is
 path_name first (Some column) is w = w
 
-column_formed : (name : NameTree) → IsNamePath name → (view : View) (places : List SqlPlace) → All (Meant view) places → OfFactor view (column_reading name (scopes_of view) places)
+pub column_formed : (name : NameTree) → IsNamePath name → (view : View) (places : List SqlPlace) → All (Meant view) places → OfFactor view (column_reading name (scopes_of view) places)
 column_formed name named view [] all e = absurd (some_none (fault 303 name.at) [] e)
 column_formed name named view (p ∷ []) all e =
     let m = All-head (Meant view) p [] all in
@@ -69,7 +69,7 @@ column_formed name named view (p ∷ []) all e =
     (ap (λ s. judged_scalar s view) (sym (views.rolls-Column p)) ∙ judged-Column p view) m.within (ap (λ c. c.domain) shown) (ap (λ c. c.bound) shown) (path_name name.first name.second named.first named.second) refl
 column_formed name named view (p ∷ q ∷ more) all e = absurd (some_none (fault 304 name.at) [] e)
 
-literal_formed : (v : Value) (at : ℕ) → IsLiteralValue v → (view : View) → OfFactor view (literal_reading v at)
+pub literal_formed : (v : Value) (at : ℕ) → IsLiteralValue v → (view : View) → OfFactor view (literal_reading v at)
 literal_formed (Num n) at is view e =
     factor_by view (literal_reading (Num n) at) (record { shape = number_shape; well = is_short n; is_sum = false }) (ap (λ s. judged_scalar s view) (sym (views.rolls-Number n)) ∙ judged-Number n view)
     (lt-ltb (unsigned_abs n) (10 ^ 18) is) refl refl tt refl
@@ -144,7 +144,7 @@ module _ (view : View) where
       let more = bounded (total + b) rs (All-tail (TermFormed view) r rs all) w.0 w.1 in
       omega (arith, more)
 
-  sum_formed : (first second : TermReading) (more : List TermReading) → first.minus ≡ false → All (OfFactor view) (map (λ (r : TermReading). r.scalar) (first ∷ second ∷ more)) → OfScalar view (sum_reading (first ∷ second ∷ more))
+  pub sum_formed : (first second : TermReading) (more : List TermReading) → first.minus ≡ false → All (OfFactor view) (map (λ (r : TermReading). r.scalar) (first ∷ second ∷ more)) → OfScalar view (sum_reading (first ∷ second ∷ more))
   sum_formed first second more plus all e =
       let rs : List TermReading = first ∷ second ∷ more in
       let f : TermReading → List Fault = λ term. term.scalar.faults ++ fault_if (is_text term.scalar.domain) 305 term.scalar.at in

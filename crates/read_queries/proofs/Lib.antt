@@ -10,3 +10,7 @@ pub mod ColumnsMeant
 pub mod FormedScalars
 pub mod FormedChoices
 pub mod FormedConditions
+pub mod FormedOutputs
+pub mod FormedSources
+pub mod FormedQueries
+pub mod FormedStatements

@@ -1,4 +1,4 @@
-//! What the queries are that an SQL text reads as: the tables that they name are those of the set.
+//! The queries that an SQL text reads as are well formed, and they fit the tables.
 //!
 //! The crate has no code that runs, and one law.
 #![tactic(auto)]
