@@ -88,9 +88,6 @@ no_text : (d : Domain) → is_text (Some d) ≡ false → domain_eq d Integer �
 no_text Integer e = refl
 no_text CharsDomain e = absurd (false≢true (sym e))
 
-term_tree : TermReading → SumTerm
-term_tree term = record { minus = term.minus; scalar = term.scalar.tree }
-
 module _ (view : View) where
   abbrev judged : TermReading → JudgedTerm
   judged r = judged_term (record { minus = r.minus; scalar = r.scalar.tree }) view

@@ -140,8 +140,3 @@ module _ (tables : Tables) where
   unfolding cond_reading from_reading scalar_reading select_reading item_reading query_reading term_reading when_reading
   by_parts at d s fs None outer = λ j. fold-roll-NamedQuery _ _ _ _ _ _ _ _ cond_step (from_step tables) scalar_step select_step item_step (query_step tables) term_step when_step (record { at = at; distinct = d; select = s; from = fs; filter = None }) j outer
   by_parts at d s fs (Some c) outer = λ j. fold-roll-NamedQuery _ _ _ _ _ _ _ _ cond_step (from_step tables) scalar_step select_step item_step (query_step tables) term_step when_step (record { at = at; distinct = d; select = s; from = fs; filter = Some c }) j outer
-
-  pub query_reading_is : (at : ℕ) (d : Bool) (ns : List NamedItem) (fs : List NamedFrom) (o : Option NamedCond) (outer : Scopes) →
-      query_reading tables (query_tree (at, (d, (named_select.Items ns, (fs, o))))) outer
-      ≡ whole_reading at d (map (from_reading tables) fs) (outputs_from 1 (map (λ (item : In ItemReading). item (own_scopes fs outer)) (map (item_reading tables) ns))) (filter_reading o (own_scopes fs outer))
-  query_reading_is at d ns fs o outer = by_parts at d (named_select.Items ns) fs o outer ∙ ap (λ outputs. whole_reading at d (map (from_reading tables) fs) outputs (filter_reading o (own_scopes fs outer))) (reading-Items ns (own_scopes fs outer))
