@@ -7,6 +7,8 @@ use Rattle.prefsql_lexer.specs.declared.fault.Spot.{Spot}
 use Rattle.prefsql_lexer.specs.declared.token.Token.{Token}
 use Rattle.prefsql_tables.specs.Table.{Tables}
 use Rattle.prefsql_session.specs.declared.command.Task.{Task}
+use Rattle.prefsql_session.specs.declared.command.Task.TheVariants.{Ask, Execute}
+use Rattle.sql_reader.proofs.OneReading.{fault_of_one, reads_one, reads_or_fault}
 use Rattle.query_grammar.proofs.Accepted.{one_list}
 use Rattle.token_forms.specs.Place.{place_of}
 use Rattle.query_grammar.specs.Scripts.{IsCode, IsFault, IsScript, IsScriptFront}
@@ -18,7 +20,7 @@ use Rattle.prefsql_session.proofs.TypingLaws.{one_blocks, one_typing_fault, typi
 use Rattle.prefsql_session.specs.Opening.{Job, bench_of, over, opening}
 use Rattle.prefsql_session.specs.ScriptEnd.{AsksFor, HasFault, HasQueryFault, IsScriptFault, IsScriptWork, IsWork}
 use Rattle.prefsql_session.specs.declared.work.Work.{Work}
-use Rattle.prefsql_session.specs.declared.work.Work.TheVariants.{Statements}
+use Rattle.prefsql_session.specs.declared.work.Work.TheVariants.{Queries, Statements}
 use Rattle.prefsql_session.specs.Stage.{Stage, untold, barred, unaccepted, missing, faulty, ready}
 use Rattle.prefsql_session.specs.declared.fault.Fault.TheVariants.{Table, Script}
 
@@ -80,13 +82,16 @@ module _ (tables : Tables) (text : List ℕ) where
 -- ---- by task
 
 one_fault : (task : Task) (tables : Tables) (text : List ℕ) (one other : Spot) → HasFault task tables text one → HasFault task tables text other → one ≡ other
-one_fault task tables text one other p q = one_query_fault tables text one other p q
+one_fault (Ask wish) tables text one other p q = one_query_fault tables text one other p q
+one_fault Execute tables text one other p q = fault_of_one tables text one other p q
 
 fault_or_work : (task : Task) (tables : Tables) (text : List ℕ) (spot : Spot) (work : Work) → HasFault task tables text spot → IsWork task tables text work → ⊥
-fault_or_work task tables text spot work p q = fault_or_blocks tables text spot q.0 p q.1
+fault_or_work (Ask wish) tables text spot work p q = fault_or_blocks tables text spot q.0 p q.1
+fault_or_work Execute tables text spot work p q = reads_or_fault tables text q.0 spot q.1 p
 
 one_work : (task : Task) (tables : Tables) (text : List ℕ) (one other : Work) → IsWork task tables text one → IsWork task tables text other → one ≡ other
-one_work task tables text one other p q = p.2 ∙ ap (λ blocks. Statements task tables blocks) (one_asked tables text p.0 q.0 p.1 q.1) ∙ sym q.2
+one_work (Ask wish) tables text one other p q = p.2 ∙ ap (λ blocks. Statements wish tables blocks) (one_asked tables text p.0 q.0 p.1 q.1) ∙ sym q.2
+one_work Execute tables text one other p q = p.2 ∙ ap (λ queries. Queries tables queries) (reads_one tables text p.0 q.0 p.1 q.1) ∙ sym q.2
 
 module _ (task : Task) (tables : Tables) (text : List ℕ) where
   script_fault : (one other : Spot) → IsScriptFault task tables text one → IsScriptFault task tables text other → one ≡ other

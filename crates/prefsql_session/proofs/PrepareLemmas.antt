@@ -16,11 +16,15 @@ use Rattle.query_typing.specs.Typing.{IsFirstOfScript, Types}
 use Rattle.query_typing.specs.declared.fault.TypeFault.{TypeFault}
 use Rattle.query_typing.specs.declared.fault.TypeFault.TheVariants as type
 use Rattle.prefsql_values.specs.Limits.{IsName}
-use Rattle.prefsql_session.specs.Stops.{parsing, typing}
+use Rattle.sql_reader.specs.Answers.{SaysFirst}
+use Rattle.sql_reader.specs.declared.fault.SqlFault.{SqlFault}
+use Rattle.sql_reader.specs.declared.fault.SqlFault.TheVariants as sql
+use Rattle.sql_tree.specs.declared.tree.SqlQuery.{SqlQuery}
+use Rattle.prefsql_session.specs.Stops.{parsing, reading, typing}
 use Rattle.prefsql_session.proofs.NameLemmas.{IsNamedCommand}
 use Rattle.prefsql_session.specs.Course.{GoesOn}
 use Rattle.prefsql_session.specs.Opening.{Job, job_stage, over}
-use Rattle.prefsql_session.specs.Parts.{Asks, Ends, Opens, Prepares, Reads}
+use Rattle.prefsql_session.specs.Parts.{Asks, Ends, Opens, Prepares, Reading, Reads}
 use Rattle.prefsql_session.specs.Run.{AsksForTables, AtEnd}
 use Rattle.prefsql_session.specs.ScriptEnd.{AsksFor, HasQueryFault, script_limit}
 use Rattle.prefsql_session.specs.Stage.{Stage, untold, barred, unaccepted, missing, faulty, ready, and_then, ready_or, MayGive}
@@ -29,12 +33,14 @@ use Rattle.prefsql_session.specs.declared.command.Command.TheVariants.{OnScript}
 use Rattle.prefsql_session.specs.declared.command.Command.TheVariants as command
 use Rattle.prefsql_session.specs.declared.command.TableWord.{TableWord}
 use Rattle.prefsql_session.specs.declared.command.Task.{Task}
+use Rattle.prefsql_session.specs.declared.command.Task.TheVariants.{Ask, Execute}
+use Rattle.prefsql_session.specs.declared.command.Wish.{Wish}
 use Rattle.prefsql_session.specs.declared.fault.Fault.{Fault}
 use Rattle.prefsql_session.specs.declared.fault.Fault.TheVariants.{Table, Script}
 use Rattle.prefsql_session.specs.declared.fault.Stop.{Stop}
 use Rattle.prefsql_session.specs.declared.fault.Stop.TheVariants.{Usage, Refused, ReadFault, ShelfFault, Memory}
 use Rattle.prefsql_session.specs.declared.work.Work.{Work}
-use Rattle.prefsql_session.specs.declared.work.Work.TheVariants.{Bench, Statements}
+use Rattle.prefsql_session.specs.declared.work.Work.TheVariants.{Bench, Queries, Statements}
 
 -- ---- the script
 
@@ -65,49 +71,56 @@ unread task tables script limit (Refused fault) e is =
     too_long task tables script fault (subst (λ (n : ℕ). IfSome script (λ all. n < length all)) e is.0)
     (subst (λ (n : ℕ). fault ≡ Script (record { code = 106; at = n })) e is.1)
 
--- a script that was read
-pub within : (task : Task) (limit : ℕ) (items text : List ℕ) → limit ≡ script_limit task → text ≡ items → length items ≤ limit → length text ≤ 1048576
-within task limit items text e same short =
-    let long : length text ≡ length items = ap length same in omega (arith, e, long, short)
+-- a preference script that was read
+module _ (wish : Wish) (tables : Tables) (text : List ℕ) (short : length text ≤ 1048576) where
+  pub asked : (blocks : List Block) → Asks tables text (Ok blocks) → Ends (Ask wish) tables (Some text) (Ok (Statements wish tables blocks))
+  asked blocks asks = (ready (Statements wish tables blocks), (short, (blocks, asks, refl)), refl)
 
--- the script that is told is the text
-told_text : (limit : ℕ) (script : Option (List ℕ)) (items text : List ℕ) → text ≡ items → (length items ≤ limit) × IfSome script (λ all. all ≡ items)
-    → IfSome script (λ all. all ≡ text)
-told_text limit None items text same is = tt
-told_text limit (Some all) items text same is = is.1 ∙ sym same
+  pub stopped : (stop : Stop) → Asks tables text (Err stop) → Ends (Ask wish) tables (Some text) (Err stop)
+  stopped Usage is = absurd is
+  stopped ReadFault is = absurd is
+  stopped ShelfFault is = absurd is
+  stopped Memory is = tt
+  stopped (Refused (Table name spot)) is = absurd is
+  stopped (Refused (Script spot)) is = (faulty (Script spot), inr (short, is), refl)
 
-query_asked : (task : Task) (tables : Tables) (script : Option (List ℕ)) (text : List ℕ) (blocks : List Block) → length text ≤ 1048576 → IfSome script (λ all. all ≡ text)
-    → AsksFor tables text blocks → Ends task tables script (Ok (Statements task tables blocks))
-query_asked task tables None text blocks short same asks = (untold, refl, tt)
-query_asked task tables (Some all) text blocks short same asks = (
-  ready (Statements task tables blocks),
-  subst (λ (t : List ℕ). (length t ≤ 1048576) × ((bs : List Block) × AsksFor tables t bs × (Statements task tables blocks ≡ Statements task tables bs))) (sym same)
-      (short, (blocks, asks, refl)),
-  refl,
-)
+-- an SQL script that was read
+module _ (tables : Tables) (text : List ℕ) (short : length text ≤ 268435456) where
+  pub sql_asked : (queries : List SqlQuery) → Reading tables text (Ok queries) → Ends Execute tables (Some text) (Ok (Queries tables queries))
+  sql_asked queries reads = (ready (Queries tables queries), (short, (queries, reads, refl)), refl)
 
-query_stopped : (task : Task) (tables : Tables) (script : Option (List ℕ)) (text : List ℕ) (stop : Stop) → length text ≤ 1048576 → IfSome script (λ all. all ≡ text)
-    → Asks tables text (Err stop) → Ends task tables script (Err stop)
-query_stopped task tables script text Usage short same is = absurd is
-query_stopped task tables script text ReadFault short same is = absurd is
-query_stopped task tables script text ShelfFault short same is = absurd is
-query_stopped task tables script text Memory short same is = tt
-query_stopped task tables script text (Refused (Table name spot)) short same is = absurd is
-query_stopped task tables None text (Refused (Script spot)) short same is = (untold, refl, tt)
-query_stopped task tables (Some all) text (Refused (Script spot)) short same is =
-    (faulty (Script spot), inr (subst (λ (t : List ℕ). (length t ≤ 1048576) × HasQueryFault tables t spot) (sym same) (short, is)), refl)
+  pub sql_stopped : (stop : Stop) → Reading tables text (Err stop) → Ends Execute tables (Some text) (Err stop)
+  sql_stopped Usage is = absurd is
+  sql_stopped ReadFault is = absurd is
+  sql_stopped ShelfFault is = absurd is
+  sql_stopped Memory is = tt
+  sql_stopped (Refused (Table name spot)) is = absurd is
+  sql_stopped (Refused (Script spot)) is = (faulty (Script spot), inr (short, is), refl)
 
--- what a preference script of this text asks for
-pub asked : (task : Task) (tables : Tables) (script : Option (List ℕ)) (limit : ℕ) (items text : List ℕ) (blocks : List Block) → limit ≡ script_limit task → text ≡ items
-    → (length items ≤ limit) × IfSome script (λ all. all ≡ items) → Asks tables text (Ok blocks) → Ends task tables script (Ok (Statements task tables blocks))
-asked task tables script limit items text blocks e same is asks =
-    query_asked task tables script text blocks (within task limit items text e same is.0) (told_text limit script items text same is) asks
+pub read_stopped : (tables : Tables) (text : List ℕ) (fault : SqlFault) → SaysFirst tables text fault → Reading tables text (Err (reading fault))
+read_stopped tables text (sql.Bad spot) says = says
+read_stopped tables text sql.Memory says = tt
 
--- its fault
-pub stopped : (task : Task) (tables : Tables) (script : Option (List ℕ)) (limit : ℕ) (items text : List ℕ) (stop : Stop) → limit ≡ script_limit task → text ≡ items
-    → (length items ≤ limit) × IfSome script (λ all. all ≡ items) → Asks tables text (Err stop) → Ends task tables script (Err stop)
-stopped task tables script limit items text stop e same is asks =
-    query_stopped task tables script text stop (within task limit items text e same is.0) (told_text limit script items text same is) asks
+-- no stop of a text is one of a device
+pub asks_unread : (tables : Tables) (text : List ℕ) (stop : Stop) → Asks tables text (Err stop) → stop ≡ ReadFault → ⊥
+asks_unread tables text stop is same = subst (λ s. Asks tables text (Err s)) same is
+
+pub reading_unread : (tables : Tables) (text : List ℕ) (stop : Stop) → Reading tables text (Err stop) → stop ≡ ReadFault → ⊥
+reading_unread tables text stop is same = subst (λ s. Reading tables text (Err s)) same is
+
+-- what a text comes to is what the script comes to, where that is told
+untold_end : (task : Task) (tables : Tables) (text : List ℕ) (r : Result Work Stop) → Ends task tables (Some text) r → Ends task tables None r
+untold_end task tables text (Ok work) is = (untold, refl, tt)
+untold_end task tables text (Err Usage) is = is
+untold_end task tables text (Err (Refused fault)) is = (untold, refl, tt)
+untold_end task tables text (Err ReadFault) is = tt
+untold_end task tables text (Err ShelfFault) is = is
+untold_end task tables text (Err Memory) is = tt
+
+pub read_end : (task : Task) (tables : Tables) (script : Option (List ℕ)) (items text : List ℕ) (r : Result Work Stop) → text ≡ items → IfSome script (λ all. all ≡ items)
+    → Ends task tables (Some text) r → Ends task tables script r
+read_end task tables None items text r same told is = untold_end task tables text r is
+read_end task tables (Some all) items text r same told is = subst (λ (t : List ℕ). Ends task tables (Some t) r) (same ∙ sym told) is
 
 -- a script that cannot be parsed or typed
 pub parse_stopped : (tables : Tables) (text : List ℕ) (tokens seen : List Token) (end : ℕ) (fault : ParseFault) → IsTokens 64 text tokens → seen ≡ tokens → end ≡ length text

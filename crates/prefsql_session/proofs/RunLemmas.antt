@@ -12,12 +12,13 @@ use Rattle.prefsql_session.specs.Texts.{text_of}
 use Rattle.prefsql_session.specs.declared.command.Command.{Command}
 use Rattle.prefsql_session.specs.declared.command.Command.TheVariants.{OnScript}
 use Rattle.prefsql_session.specs.declared.command.Command.TheVariants as command
-use Rattle.prefsql_session.specs.declared.command.Task.TheVariants.{Answer, Show}
+use Rattle.prefsql_session.specs.declared.command.Task.TheVariants.{Ask, Execute}
+use Rattle.prefsql_session.specs.declared.command.Wish.TheVariants.{Answer, Show}
 use Rattle.prefsql_session.specs.declared.fault.Fault.{Fault}
 use Rattle.prefsql_session.specs.declared.session.Status.{Status}
 use Rattle.prefsql_session.specs.declared.session.Status.TheVariants.{Done, Refused, Usage, ReadFault, WriteFault, Memory, ShelfFault}
 use Rattle.prefsql_session.specs.declared.work.Work.{Work}
-use Rattle.prefsql_session.specs.declared.work.Work.TheVariants.{Bench, Statements}
+use Rattle.prefsql_session.specs.declared.work.Work.TheVariants.{Bench, Queries, Statements}
 
 text_at : (end : Stage Work) (work : Work) (text : List ℕ) → MayGive end work → text ≡ text_of work → IsTextAt end text
 text_at untold work text is e = tt
@@ -88,35 +89,46 @@ module _ (Course : Stage Work → Type 0) (old new : Option (List ℕ)) (before 
   done_due : (asked : Option Command) (work : Work) → AtEnd Course (λ end. MayGive end work) → IsAskedFor asked work
       → Finishes work old new before after → WritesDue Course asked Done old new
   done_due None work at is finishes = absurd is
-  done_due (Some (OnScript (Answer true) words)) (Statements task tables blocks) at is finishes =
+  done_due (Some (OnScript (Ask (Answer true)) words)) (Statements task tables blocks) at is finishes =
       let found = subst (λ t. AtEnd Course (λ end. MayGive end (Statements t tables blocks))) is at in
       let made = subst (λ t. Finishes (Statements t tables blocks) old new before after) is finishes in (
         flat_map tests_line made.0,
         (found.0, found.1, due_at found.0 (Statements (Answer true) tables blocks) (flat_map tests_line made.0) found.2 (made.0, made.1.counts, refl)),
         made.2,
       )
-  done_due (Some (OnScript (Answer false) words)) (Statements task tables blocks) at is finishes =
+  done_due (Some (OnScript (Ask (Answer false)) words)) (Statements task tables blocks) at is finishes =
       let made = subst (λ t. Finishes (Statements t tables blocks) old new before after) is finishes in
       nothing_kept old new made.2
-  done_due (Some (OnScript (Show shown) words)) (Statements task tables blocks) at is finishes =
+  done_due (Some (OnScript (Ask (Show shown)) words)) (Statements task tables blocks) at is finishes =
       subst (λ t. Finishes (Statements t tables blocks) old new before after) is finishes
-  done_due (Some (OnScript (Answer true) words)) (Bench count) at is finishes = absurd is
-  done_due (Some (OnScript (Answer false) words)) (Bench count) at is finishes = absurd is
-  done_due (Some (OnScript (Show shown) words)) (Bench count) at is finishes = absurd is
+  done_due (Some (OnScript (Ask (Answer true)) words)) (Queries tables queries) at is finishes = absurd is
+  done_due (Some (OnScript (Ask (Answer false)) words)) (Queries tables queries) at is finishes = absurd is
+  done_due (Some (OnScript (Ask (Show shown)) words)) (Queries tables queries) at is finishes = absurd is
+  done_due (Some (OnScript Execute words)) (Queries tables queries) at is finishes = finishes
+  done_due (Some (OnScript Execute words)) (Statements wish tables blocks) at is finishes = absurd is
+  done_due (Some (OnScript Execute words)) (Bench count) at is finishes = absurd is
+  done_due (Some (OnScript (Ask (Answer true)) words)) (Bench count) at is finishes = absurd is
+  done_due (Some (OnScript (Ask (Answer false)) words)) (Bench count) at is finishes = absurd is
+  done_due (Some (OnScript (Ask (Show shown)) words)) (Bench count) at is finishes = absurd is
   done_due (Some (command.Bench count)) work at is finishes =
       let made = subst (λ w. Finishes w old new before after) is finishes in made.2
 
   memory_due : (asked : Option Command) (work : Work) → AtEnd Course (λ end. MayGive end work) → IsAskedFor asked work
       → GetsFront (IsDueSoFar work) old new → WritesDue Course asked Memory old new
   memory_due None work at is front = absurd is
-  memory_due (Some (OnScript (Answer true) words)) work at is front =
+  memory_due (Some (OnScript (Ask (Answer true)) words)) work at is front =
       front_fits (IsDueSoFar work) (IsDueSoFarOf Course) (λ lines due. (at.0, at.1, so_far_at at.0 work lines at.2 due)) old new front
-  memory_due (Some (OnScript (Answer false) words)) (Statements task tables blocks) at is front =
+  memory_due (Some (OnScript (Ask (Answer false)) words)) (Statements task tables blocks) at is front =
       no_front_kept old new (subst (λ t. GetsFront (IsDueSoFar (Statements t tables blocks)) old new) is front)
-  memory_due (Some (OnScript (Show shown) words)) (Statements task tables blocks) at is front =
+  memory_due (Some (OnScript (Ask (Show shown)) words)) (Statements task tables blocks) at is front =
       no_front_kept old new (subst (λ t. GetsFront (IsDueSoFar (Statements t tables blocks)) old new) is front)
-  memory_due (Some (OnScript (Answer false) words)) (Bench count) at is front = absurd is
-  memory_due (Some (OnScript (Show shown) words)) (Bench count) at is front = absurd is
+  memory_due (Some (OnScript (Ask (Answer false)) words)) (Queries tables queries) at is front = absurd is
+  memory_due (Some (OnScript (Ask (Show shown)) words)) (Queries tables queries) at is front = absurd is
+  memory_due (Some (OnScript Execute words)) (Queries tables queries) at is front = no_front_kept old new front
+  memory_due (Some (OnScript Execute words)) (Statements wish tables blocks) at is front = absurd is
+  memory_due (Some (OnScript Execute words)) (Bench count) at is front = absurd is
+  memory_due (Some (OnScript (Ask (Answer false)) words)) (Bench count) at is front = absurd is
+  memory_due (Some (OnScript (Ask (Show shown)) words)) (Bench count) at is front = absurd is
   memory_due (Some (command.Bench count)) work at is front =
       no_front_kept old new (subst (λ w. GetsFront (IsDueSoFar w) old new) is front)
 
@@ -190,9 +202,10 @@ module _ (Course : Stage Work → Type 0) (fault : Fault) (at : AtEnd Course (λ
 
   kept_due : (asked : Option Command) → Keeps old new → WritesDue Course asked Memory old new
   kept_due None keeps = keeps
-  kept_due (Some (OnScript (Answer true) words)) keeps = inl keeps
-  kept_due (Some (OnScript (Answer false) words)) keeps = keeps
-  kept_due (Some (OnScript (Show shown) words)) keeps = keeps
+  kept_due (Some (OnScript (Ask (Answer true)) words)) keeps = inl keeps
+  kept_due (Some (OnScript (Ask (Answer false)) words)) keeps = keeps
+  kept_due (Some (OnScript (Ask (Show shown)) words)) keeps = keeps
+  kept_due (Some (OnScript Execute words)) keeps = keeps
   kept_due (Some (command.Bench count)) keeps = keeps
 
   pub refused_due : (asked : Option Command) (result : Status) → WritesLine Line Refused before now old new result → WritesDue Course asked result old new

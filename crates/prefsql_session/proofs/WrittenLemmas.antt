@@ -26,9 +26,10 @@ use Rattle.prefsql_session.specs.Texts.{AreAnswerable, IsAnswerable}
 use Rattle.prefsql_session.specs.Written.{AreWritten, IsWritten, IsWrittenAt, SaysTheSame}
 use Rattle.prefsql_session.specs.declared.command.Shown.TheVariants.{Plan, Query, Executed}
 use Rattle.prefsql_session.specs.declared.command.Task.{Task}
-use Rattle.prefsql_session.specs.declared.command.Task.TheVariants.{Answer, Show}
+use Rattle.prefsql_session.specs.declared.command.Task.TheVariants.{Ask, Execute}
+use Rattle.prefsql_session.specs.declared.command.Wish.TheVariants.{Answer, Show}
 use Rattle.prefsql_session.specs.declared.work.Work.{Work}
-use Rattle.prefsql_session.specs.declared.work.Work.TheVariants.{Bench, Statements}
+use Rattle.prefsql_session.specs.declared.work.Work.TheVariants.{Bench, Queries, Statements}
 use Rattle.prefsql_session.proofs.TypedLemmas.{typed_answerable}
 
 -- ---- the statements of a run
@@ -39,6 +40,7 @@ record AreFew (tables : Tables) (blocks : List Block) : Type 0 where
 
 abbrev FewWork : Work → Type 0
 FewWork (Statements task tables blocks) = AreFew tables blocks
+FewWork (Queries tables queries) = Unit {0}
 FewWork (Bench count) = Unit {0}
 
 typed_length : (tables : Tables) (trees : List QueryTree) (blocks : List Block) → AreTyped tables trees blocks → length blocks ≡ length trees
@@ -55,8 +57,10 @@ work_few missing text work is = absurd (cc)
 work_few (faulty fault) text work is = absurd (cc)
 work_few (ready (bench_of count)) text (Bench other) is = tt
 work_few (ready (bench_of count)) text (Statements task tables blocks) is = absurd (cc)
+work_few (ready (bench_of count)) text (Queries tables queries) is = absurd (cc)
 work_few (ready (over task tables)) None work is = absurd (cc)
-work_few (ready (over task tables)) (Some text) work is =
+work_few (ready (over Execute tables)) (Some text) work is = subst FewWork (sym is.1.2) tt
+work_few (ready (over (Ask wish) tables)) (Some text) work is =
     let asks = is.1.1 in
     let few = asks.3.0 in
     let same = typed_length tables asks.1 is.1.0 asks.4 in
@@ -103,6 +107,7 @@ all_utf8 blocks utf8 = texts_utf8 (written blocks) (All-map (λ q. IsUtf8 (text_
 
 work_written : (work : Work) → FewWork work → IsUtf8Work work → IsWrittenAt (ready work)
 work_written (Bench count) few utf8 = tt
+work_written (Queries tables queries) few utf8 = tt
 work_written (Statements (Answer tells) tables blocks) few utf8 = tt
 work_written (Statements (Show Plan) tables blocks) few utf8 = tt
 work_written (Statements (Show Executed) tables blocks) few utf8 = tt

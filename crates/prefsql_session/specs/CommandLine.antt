@@ -9,7 +9,9 @@ use Rattle.prefsql_session.specs.declared.command.Command.{Command}
 use Rattle.prefsql_session.specs.declared.command.Command.TheVariants.{Bench, OnScript}
 use Rattle.prefsql_session.specs.declared.command.TableWord.{TableWord}
 use Rattle.prefsql_session.specs.declared.command.Task.{Task}
-use Rattle.prefsql_session.specs.declared.command.Task.TheVariants.{Answer, Show}
+use Rattle.prefsql_session.specs.declared.command.Task.TheVariants.{Ask, Execute}
+use Rattle.prefsql_session.specs.declared.command.Wish.{Wish}
+use Rattle.prefsql_session.specs.declared.command.Wish.TheVariants.{Answer, Show}
 use Rattle.prefsql_session.specs.declared.command.Shown.{Shown}
 use Rattle.prefsql_session.specs.declared.command.Shown.TheVariants.{Plan, Query, Executed}
 
@@ -46,11 +48,17 @@ shown_of name =
 
 -- what is written of each statement, by the name of the command and by whether `--stats` stands
 -- there, which `answer` alone takes
-abbrev pub task_named : List ℕ → Bool → Option Task
-task_named name counts =
+abbrev pub wish_named : List ℕ → Bool → Option Wish
+wish_named name counts =
     if bytes_eq name (codes "answer") then Some (Answer counts)
     else if counts then None
     else option_map Show (shown_of name)
+
+-- what is done with a script, by the same
+abbrev pub task_named : List ℕ → Bool → Option Task
+task_named name counts =
+    if bytes_eq name (codes "execute") then if counts then None else Some Execute
+    else option_map Ask (wish_named name counts)
 
 -- one to six digits
 abbrev pub is_number : List ℕ → Bool

@@ -20,7 +20,11 @@ use Rattle.prefsql_session.specs.declared.command.Command.{Command}
 use Rattle.prefsql_session.specs.declared.command.Command.TheVariants.{OnScript}
 use Rattle.prefsql_session.specs.declared.command.Command.TheVariants as command
 use Rattle.prefsql_session.specs.declared.command.Task.{Task}
-use Rattle.prefsql_session.specs.declared.command.Task.TheVariants.{Show}
+use Rattle.prefsql_session.specs.declared.command.Task.TheVariants.{Ask, Execute}
+use Rattle.prefsql_session.specs.declared.command.Wish.{Wish}
+use Rattle.prefsql_session.specs.declared.command.Wish.TheVariants.{Show}
+use Rattle.sql_reader.specs.Reads.{HasFirstFault, ReadsAs}
+use Rattle.sql_tree.specs.declared.tree.SqlQuery.{SqlQuery}
 use Rattle.prefsql_session.specs.Written.{AreUtf8}
 use Rattle.prefsql_session.specs.declared.fault.Fault.TheVariants.{Script}
 use Rattle.prefsql_session.specs.declared.fault.Stop.{Stop}
@@ -30,7 +34,7 @@ use Rattle.prefsql_session.specs.declared.halt.Halt.TheVariants as halt
 use Rattle.prefsql_session.specs.declared.session.Status.{Status}
 use Rattle.prefsql_session.specs.declared.session.Status.TheVariants.{Done, WriteFault, Memory}
 use Rattle.prefsql_session.specs.declared.work.Work.{Work}
-use Rattle.prefsql_session.specs.declared.work.Work.TheVariants.{Bench, Statements}
+use Rattle.prefsql_session.specs.declared.work.Work.TheVariants.{Bench, Queries, Statements}
 
 -- the work up to the writing
 module _ (Course : Stage Work → Type 0) (opens : Stage Job) (asked : Option Command) where
@@ -77,6 +81,13 @@ Asks tables text (Ok blocks) = AsksFor tables text blocks
 Asks tables text (Err (stop.Refused (Script spot))) = HasQueryFault tables text spot
 Asks tables text (Err stop.Memory) = ⊤
 Asks tables text (Err other) = ⊥
+
+-- the text of an SQL script
+abbrev pub Reading : Tables → List ℕ → Result (List SqlQuery) Stop → Type 0
+Reading tables text (Ok queries) = ReadsAs tables text queries
+Reading tables text (Err (stop.Refused (Script spot))) = HasFirstFault tables text spot
+Reading tables text (Err stop.Memory) = ⊤
+Reading tables text (Err other) = ⊥
 
 -- what a body that writes one line to `err` may answer
 module _ (Wanted : List ℕ → Type 0) (done : Status) (before now : ℕ) (old new : Option (List ℕ)) (result : Status) where
@@ -133,21 +144,21 @@ module _ (tells : Bool) (tables : Tables) (blocks : List Block) (before now : �
       ⊎ (GetsFront AnswersOf old new × FallsShort TellsFirst err_before err_now err_old err_new)
   WritesAnswers (Err halt.Memory) = GetsFront AnswersOf old new × GetsFront TellsFirst err_old err_new
 
--- what a body that writes what a task asks of statements may answer
-module _ (task : Task) (tables : Tables) (blocks : List Block) (before now : ℕ) (old new : Option (List ℕ))
+-- the same of a body that stops where it cannot go on
+module _ (work : Work) (before now : ℕ) (old new : Option (List ℕ))
     (err_before err_now : ℕ) (err_old err_new : Option (List ℕ)) (start end : ℕ) where
-  abbrev pub WritesTask : Result ⊤ Halt → Type 0
-  WritesTask (Ok done) =
-      WritesWork (Statements task tables blocks) before now old new err_before err_now err_old err_new start end Done
-  WritesTask (Err halt.WriteFault) =
-      WritesWork (Statements task tables blocks) before now old new err_before err_now err_old err_new start end WriteFault
-  WritesTask (Err halt.Memory) =
-      WritesWork (Statements task tables blocks) before now old new err_before err_now err_old err_new start end Memory
+  abbrev pub WritesOrHalts : Result ⊤ Halt → Type 0
+  WritesOrHalts (Ok done) = WritesWork work before now old new err_before err_now err_old err_new start end Done
+  WritesOrHalts (Err halt.WriteFault) =
+      WritesWork work before now old new err_before err_now err_old err_new start end WriteFault
+  WritesOrHalts (Err halt.Memory) =
+      WritesWork work before now old new err_before err_now err_old err_new start end Memory
 
 -- the work is what the task asks for
 abbrev pub IsOfTask : Task → Work → Type 0
-IsOfTask task (Statements other tables blocks) = other ≡ task
-IsOfTask task (Bench count) = ⊥
+IsOfTask (Ask wish) (Statements other tables blocks) = other ≡ wish
+IsOfTask Execute (Queries tables queries) = ⊤
+IsOfTask task work = ⊥
 
 -- the work is what the words ask for
 abbrev pub IsAskedFor : Option Command → Work → Type 0

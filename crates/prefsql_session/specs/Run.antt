@@ -16,9 +16,10 @@ use Rattle.prefsql_session.specs.declared.command.Command.TheVariants.{OnScript}
 use Rattle.prefsql_session.specs.declared.fault.Fault.{Fault}
 use Rattle.prefsql_session.specs.declared.session.Status.{Status}
 use Rattle.prefsql_session.specs.declared.session.Status.TheVariants.{Done, Refused, Usage, ReadFault, WriteFault, Memory, ShelfFault}
-use Rattle.prefsql_session.specs.declared.command.Task.TheVariants.{Answer, Show}
+use Rattle.prefsql_session.specs.declared.command.Task.TheVariants.{Ask}
+use Rattle.prefsql_session.specs.declared.command.Wish.TheVariants.{Answer, Show}
 use Rattle.prefsql_session.specs.declared.work.Work.{Work}
-use Rattle.prefsql_session.specs.declared.work.Work.TheVariants.{Bench, Statements}
+use Rattle.prefsql_session.specs.declared.work.Work.TheVariants.{Bench, Queries, Statements}
 
 -- ---- one end of a run
 
@@ -64,6 +65,7 @@ abbrev pub Finishes : Work → Option (List ℕ) → Option (List ℕ) → ℕ �
 Finishes (Statements (Answer tells) tables blocks) old new before after =
     (tests : List ℕ) × Takes tables blocks tests before after × Appends old new (told_lines tells tests)
 Finishes (Statements (Show shown) tables blocks) old new before after = Keeps old new
+Finishes (Queries tables queries) old new before after = Keeps old new
 Finishes (Bench count) old new before after =
     (tests : List ℕ) × Takes (bench_set count) bench_blocks tests before after × Keeps old new
 
@@ -93,7 +95,7 @@ AsksForTables other = ⊥
 
 -- one thing where the words ask for counts, else another
 abbrev pub IfCounts : Option Command → Type 0 → Type 0 → Type 0
-IfCounts (Some (OnScript (Answer true) words)) Told Untold = Told
+IfCounts (Some (OnScript (Ask (Answer true)) words)) Told Untold = Told
 IfCounts asked Told Untold = Untold
 
 -- the words ask for a script

@@ -8,13 +8,17 @@ use Rattle.query_grammar.specs.Scripts.{IsFault, IsScript}
 use Rattle.query_meaning.specs.declared.block.Block.{Block}
 use Rattle.query_tree.specs.declared.query.QueryTree.{QueryTree}
 use Rattle.query_typing.specs.Typing.{AreTyped, IsFirstOfScript}
+use Rattle.sql_reader.specs.Reads.{HasFirstFault, ReadsAs}
+use Rattle.sql_tree.specs.declared.tree.SqlQuery.{SqlQuery}
 use Rattle.prefsql_session.specs.declared.command.Task.{Task}
+use Rattle.prefsql_session.specs.declared.command.Task.TheVariants.{Ask, Execute}
 use Rattle.prefsql_session.specs.declared.work.Work.{Work}
-use Rattle.prefsql_session.specs.declared.work.Work.TheVariants.{Statements}
+use Rattle.prefsql_session.specs.declared.work.Work.TheVariants.{Queries, Statements}
 
 -- the greatest number of bytes of a script
 abbrev pub script_limit : Task → ℕ
-script_limit task = 1048576
+script_limit (Ask wish) = 1048576
+script_limit Execute = 268435456
 
 -- a preference script is cut into tokens, these are parsed, and the trees are typed over the tables: the first fault of the
 -- first part of this that has one
@@ -32,12 +36,15 @@ AsksFor tables text blocks =
 
 -- the first fault of a script that is not too long
 abbrev pub HasFault : Task → Tables → List ℕ → Spot → Type 0
-HasFault task tables text spot = HasQueryFault tables text spot
+HasFault (Ask wish) tables text spot = HasQueryFault tables text spot
+HasFault Execute tables text spot = HasFirstFault tables text spot
 
 -- what the script asks for
 abbrev pub IsWork : Task → Tables → List ℕ → Work → Type 0
-IsWork task tables text work =
-    (blocks : List Block) × AsksFor tables text blocks × (work ≡ Statements task tables blocks)
+IsWork (Ask wish) tables text work =
+    (blocks : List Block) × AsksFor tables text blocks × (work ≡ Statements wish tables blocks)
+IsWork Execute tables text work =
+    (queries : List SqlQuery) × ReadsAs tables text queries × (work ≡ Queries tables queries)
 
 -- a script that is too long has its fault at the limit
 pub record IsTooLong (task : Task) (text : List ℕ) (spot : Spot) : Type 0 where

@@ -5,6 +5,8 @@ use Rattle.query_parser.specs.declared.fault.ParseFault.{ParseFault}
 use Rattle.query_parser.specs.declared.fault.ParseFault.TheVariants as parse
 use Rattle.query_typing.specs.declared.fault.TypeFault.{TypeFault}
 use Rattle.query_typing.specs.declared.fault.TypeFault.TheVariants as type
+use Rattle.sql_reader.specs.declared.fault.SqlFault.{SqlFault}
+use Rattle.sql_reader.specs.declared.fault.SqlFault.TheVariants as sql
 use Rattle.prefsql_session.specs.declared.fault.Fault.TheVariants.{Script}
 use Rattle.prefsql_session.specs.declared.fault.Stop.{Stop}
 use Rattle.prefsql_session.specs.declared.fault.Stop.TheVariants.{Refused, Memory}
@@ -20,3 +22,7 @@ parsing parse.Memory = Memory
 abbrev pub typing : TypeFault → Stop
 typing (type.Bad spot) = Refused (Script spot)
 typing type.Memory = Memory
+
+abbrev pub reading : SqlFault → Stop
+reading (sql.Bad spot) = Refused (Script spot)
+reading sql.Memory = Memory

@@ -12,12 +12,15 @@ use Rattle.query_meaning.specs.declared.block.Block.{Block}
 use Rattle.rewritten_query.specs.Rewriting.{rewritten}
 use Rattle.sql_text.specs.Text as sql
 use Rattle.table_csv.specs.AnswerText.{text_of_answer}
-use Rattle.prefsql_session.specs.declared.command.Task.{Task}
-use Rattle.prefsql_session.specs.declared.command.Task.TheVariants.{Answer, Show}
+use Rattle.sql_tree.specs.Fits.{FitsTables as FitsQuery}
+use Rattle.sql_tree.specs.Meaning as tree
+use Rattle.sql_tree.specs.declared.tree.SqlQuery.{SqlQuery}
+use Rattle.prefsql_session.specs.declared.command.Wish.{Wish}
+use Rattle.prefsql_session.specs.declared.command.Wish.TheVariants.{Answer, Show}
 use Rattle.prefsql_session.specs.declared.command.Shown.{Shown}
 use Rattle.prefsql_session.specs.declared.command.Shown.TheVariants.{Plan, Query, Executed}
 use Rattle.prefsql_session.specs.declared.work.Work.{Work}
-use Rattle.prefsql_session.specs.declared.work.Work.TheVariants.{Bench, Statements}
+use Rattle.prefsql_session.specs.declared.work.Work.TheVariants.{Bench, Queries, Statements}
 
 -- what is shown of a statement: its plan, its SQL query, or the answer, to which that query comes
 abbrev pub shown_text : Shown → Tables → Block → List ℕ
@@ -25,14 +28,19 @@ shown_text Plan tables block = plan_text block (block_plan block)
 shown_text Query tables block = sql.text_of (rewritten block)
 shown_text Executed tables block = text_of_answer (answer_of tables block)
 
--- what the task asks of a statement as text
-abbrev pub statement_text : Task → Tables → Block → List ℕ
+-- what is to be written of a statement
+abbrev pub statement_text : Wish → Tables → Block → List ℕ
 statement_text (Answer tells) tables block = text_of_answer (answer_of tables block)
 statement_text (Show shown) tables block = shown_text shown tables block
 
--- the texts of the statements, one after the other
+-- the answer of an SQL query
+abbrev pub query_text : Tables → SqlQuery → List ℕ
+query_text tables query = text_of_answer (tree.answer_of tables query)
+
+-- the texts of the statements, or of the queries, one after the other
 abbrev pub text_of : Work → List ℕ
-text_of (Statements task tables blocks) = flat_map (statement_text task tables) blocks
+text_of (Statements wish tables blocks) = flat_map (statement_text wish tables) blocks
+text_of (Queries tables queries) = flat_map (query_text tables) queries
 text_of (Bench count) = bench_summary count
 
 -- a query that has an answer over these tables, a plan, and an SQL query that means the same
@@ -50,5 +58,6 @@ pub record IsBenchCount (count : ℕ) : Type 0 where
 
 -- each statement has its text
 abbrev pub HasTexts : Work → Type 0
-HasTexts (Statements task tables blocks) = AreAnswerable tables blocks
+HasTexts (Statements wish tables blocks) = AreAnswerable tables blocks
+HasTexts (Queries tables queries) = All (FitsQuery tables) queries
 HasTexts (Bench count) = IsBenchCount count

@@ -12,7 +12,7 @@ use Rattle.written_script.specs.WrittenScript.{IsOther, answers_of_blocks, answe
 use Rattle.prefsql_session.specs.Stage.{Stage, ready}
 use Rattle.prefsql_session.specs.declared.command.Shown.{Shown}
 use Rattle.prefsql_session.specs.declared.command.Shown.TheVariants.{Query}
-use Rattle.prefsql_session.specs.declared.command.Task.TheVariants.{Show}
+use Rattle.prefsql_session.specs.declared.command.Wish.TheVariants.{Show}
 use Rattle.prefsql_session.specs.declared.work.Work.{Work}
 use Rattle.prefsql_session.specs.declared.work.Work.TheVariants.{Statements}
 

@@ -7,9 +7,18 @@ pub(crate) struct TableWord {
     pub(crate) path: Text,
 }
 
-/// What is written of each statement of a preference script.
+/// What is done with a script.
 #[derive(Clone, Copy, Debug, PartialEq, Eq)]
 pub(crate) enum Task {
+    /// It is a preference script, and this is written of each statement.
+    Ask(Wish),
+    /// It is an SQL script, and each query is answered.
+    Execute,
+}
+
+/// What is written of each statement of a preference script.
+#[derive(Clone, Copy, Debug, PartialEq, Eq)]
+pub(crate) enum Wish {
     /// Its answer. The flag says whether the tests that the answer took are told.
     Answer(bool),
     /// What can be shown of it.

@@ -7,12 +7,12 @@ ghost use Rattle.clap.specs.Matches.{found_of};
 ghost use Rattle.clap.specs.Simple.{matches_of};
 ghost use Rattle.clap.specs.Takes.{takes};
 ghost use Rattle.clap.specs.Walk.{rows_of};
-ghost use Rattle.prefsql_session.specs.CommandLine.{accepted, begins_plain, bench_count, command_of, is_number, is_plain, row_count, script_command, shown_of, task_named};
+ghost use Rattle.prefsql_session.specs.CommandLine.{accepted, begins_plain, bench_count, command_of, is_number, is_plain, row_count, script_command, shown_of, task_named, wish_named};
 ghost use Rattle.prefsql_session.specs.WordsApp.{Reads, words_app};
 
 use crate::reader::words_command;
 use crate::table_words::table_words;
-use crate::{Command, Shown, Task};
+use crate::{Command, Shown, Task, Wish};
 use clap::ArgMatches;
 use clap::error::ErrorKind;
 use prefsql_values::{Memory, Text};
@@ -32,16 +32,26 @@ fn shown_of(name: &str) -> Option<Shown>
 
 // What is written of each statement, by the name of the command and by whether `--stats` stands
 // there.
-fn task_named(name: &str, counts: bool) -> Option<Task>
-    ensures { result ≡ task_named name.now counts }
+fn wish_named(name: &str, counts: bool) -> Option<Wish>
+    ensures { result ≡ wish_named name.now counts }
 {
     if name == "answer" {
-        return Some(Task::Answer(counts));
+        return Some(Wish::Answer(counts));
     }
     if counts {
         return None;
     }
-    shown_of(name).map(Task::Show)
+    shown_of(name).map(Wish::Show)
+}
+
+// What is done with a script, by the same.
+fn task_named(name: &str, counts: bool) -> Option<Task>
+    ensures { result ≡ task_named name.now counts }
+{
+    if name != "execute" {
+        return wish_named(name, counts).map(Task::Ask);
+    }
+    if counts { None } else { Some(Task::Execute) }
 }
 
 fn are_digits(bytes: &[u8]) -> bool

@@ -4,6 +4,7 @@ use prefsql_lexer::{LexFault, Spot};
 use prefsql_values::{Memory, Text};
 use query_parser::ParseFault;
 use query_typing::TypeFault;
+use sql_reader::SqlFault;
 use table_csv::TableSpot;
 
 /// The first fault of a run: of the table with this name, or of the script.
@@ -73,6 +74,19 @@ impl From<TypeFault> for Stop {
         match fault {
             TypeFault::Bad(spot) => Stop::Refused(Fault::Script(spot)),
             TypeFault::Memory => Stop::Memory,
+        }
+    }
+}
+
+impl From<SqlFault> for Stop {
+    ghost use Rattle.prefsql_session.specs.Stops.{reading};
+
+    ghost from_gives = { λ fault e. e ≡ reading fault };
+
+    fn from(fault: SqlFault) -> Stop {
+        match fault {
+            SqlFault::Bad(spot) => Stop::Refused(Fault::Script(spot)),
+            SqlFault::Memory => Stop::Memory,
         }
     }
 }

@@ -5,6 +5,7 @@ mod answering;
 mod benching;
 mod command;
 mod command_line;
+mod executing;
 mod fault;
 mod fault_line;
 mod halt;
@@ -17,7 +18,7 @@ mod tables;
 mod work;
 mod writing;
 
-use command::{Command, Shown, TableWord, Task};
+use command::{Command, Shown, TableWord, Task, Wish};
 use command_line::accepted;
 pub use session::{Status, run};
 

@@ -1,8 +1,9 @@
 //! The script of a run: what it asks for over the tables.
-ghost use Rattle.std.specs.Prelude.{◌≡◌, ◌<◌, ◌≤◌, IfOk, OnOk, IsErr, IsErrOf, length};
+ghost use Rattle.std.specs.Prelude.{◌≡◌, ◌<◌, ◌≤◌, Some, All, IfOk, OnOk, IsErr, IsErrOf, length};
 ghost use Rattle.std.specs.Io.KnownBytes.{IsAtEnd};
 ghost use Rattle.prefsql_io.specs.Counts.{HasCause};
-ghost use Rattle.prefsql_session.specs.Parts.{Asks, Ends, IsOfTask, Reads};
+ghost use Rattle.prefsql_session.specs.Parts.{Asks, Ends, IsOfTask, Reading, Reads};
+ghost use Rattle.sql_tree.specs.Fits.{FitsTables};
 ghost use Rattle.prefsql_session.specs.ScriptEnd.{script_limit};
 ghost use Rattle.prefsql_session.specs.Texts.{AreAnswerable, HasTexts};
 
@@ -16,6 +17,9 @@ use prefsql_values::List;
 use query_meaning::Block;
 use query_parser::parse_script;
 use query_typing::type_script;
+use read_queries::read_queries_law;
+use sql_reader::read_sql;
+use sql_tree::SqlQuery;
 use std::alloc::Global;
 
 /// E106, for a script of more bytes than the limit, which is its place.
@@ -29,7 +33,8 @@ fn script_limit(task: Task) -> u32
     ensures { result ≡ script_limit task }
 {
     match task {
-        Task::Answer(_) | Task::Show(_) => 1_048_576,
+        Task::Ask(_) => 1_048_576,
+        Task::Execute => 268_435_456,
     }
 }
 
@@ -62,6 +67,36 @@ fn queries(alloc: Global, text: &[u8], tables: &TableSet) -> Result<List<Block>,
     Ok(type_script(alloc, trees.as_slice(), tables)?)
 }
 
+// The queries of an SQL script: all of it is read over the tables.
+fn sql_queries(alloc: Global, text: &[u8], tables: &TableSet) -> Result<List<SqlQuery>, Stop>
+    requires { length text.now ≤ 268435456 }
+    ensures reads { Reading tables.now text.now result }
+    ensures fits { IfOk result (All (FitsTables tables.now)) }
+{
+    read_queries_law();
+    Ok(read_sql(alloc, text, tables)?)
+}
+
+// What the text of a script asks for.
+fn text_work(alloc: Global, task: Task, tables: TableSet, text: &[u8]) -> Result<Work, Stop>
+    requires { length text.now ≤ script_limit task }
+    ensures follows { Ends task tables (Some text.now) result }
+    ensures unread { IsErrOf result Stop.ReadFault → ⊥ }
+    ensures asked { IfOk result (IsOfTask task) }
+    ensures texts { IfOk result HasTexts }
+{
+    match task {
+        Task::Ask(wish) => {
+            let blocks = queries(alloc, text, &tables)?;
+            Ok(Work::Statements(wish, tables, blocks))
+        }
+        Task::Execute => {
+            let queries = sql_queries(alloc, text, &tables)?;
+            Ok(Work::Queries(tables, queries))
+        }
+    }
+}
+
 /// Reads the script to its end, and finds what it asks for over the tables.
 pub(crate) fn read_work<S: Source>(
     alloc: Global,
@@ -77,6 +112,5 @@ pub(crate) fn read_work<S: Source>(
     ensures end { OnOk result (IsAtEnd (S.left script.new)) }
 {
     let text = read_script(alloc, script, script_limit(task))?;
-    let blocks = queries(alloc, &text, &tables)?;
-    Ok(Work::Statements(task, tables, blocks))
+    text_work(alloc, task, tables, &text)
 }

@@ -4,4 +4,5 @@ mod case;
 mod devices;
 mod faults;
 mod kinds;
+mod sql;
 mod texts;

@@ -6,38 +6,35 @@ ghost use Rattle.prefsql_io.specs.Counts.{HasCause};
 ghost use Rattle.prefsql_io.specs.Streams.{AppendsLess};
 ghost use Rattle.plan_algebra.specs.PlanText.{plan_text};
 ghost use Rattle.plan_stages.specs.Stages.{block_plan};
-ghost use Rattle.query_meaning.specs.Answers.{answer_of};
 ghost use Rattle.query_meaning.specs.Valid.{IsValidBlock};
 ghost use Rattle.rewritten_query.specs.Rewriting.{rewritten};
 ghost use Rattle.sql_text.specs.Text as sql;
-ghost use Rattle.table_csv.specs.AnswerText.{text_of_answer};
 ghost use Rattle.prefsql_bench.specs.BenchTable.{bench_set};
 ghost use Rattle.prefsql_bench.specs.Statements.{bench_blocks};
 ghost use Rattle.prefsql_bench.specs.Summary.{bench_summary};
 ghost use Rattle.prefsql_session.specs.Counts.{Takes};
-ghost use Rattle.prefsql_session.specs.Parts.{WritesTask, WritesWork};
+ghost use Rattle.prefsql_session.specs.Parts.{WritesOrHalts, WritesWork};
 ghost use Rattle.prefsql_session.specs.Run.{GetsFront};
+ghost use Rattle.prefsql_session.specs.declared.work.Work.TheVariants.{Statements};
 ghost use Rattle.prefsql_session.specs.Texts.{HasTexts, IsAnswerable, IsBenchCount, shown_text};
 ghost use Rattle.prefsql_session.specs.Written.{AreUtf8};
 
 use crate::answering::write_answers;
 use crate::benching::summary;
+use crate::executing::{executed, write_queries};
 use crate::halt::Halt;
 use crate::work::Work;
-use crate::{Shown, Status, Task};
+use crate::{Shown, Status, Wish};
 use plan_algebra::explain_text;
 use plan_optimiser::optimise;
 use prefsql_io::{Sink, write_all};
 use prefsql_tables::TableSet;
 use prefsql_values::{Memory, Steps};
 use query_meaning::Block;
-use sql_exec::execute;
 use sql_rewriter::rewrite;
 use sql_text::write_sql;
 use std::alloc::Global;
 use std::sync::ledger::Ledger;
-use table_csv::answer_text;
-use written_query_validity::writes_fitting;
 
 // The plan of a statement.
 fn explained(alloc: Global, block: &Block) -> Result<Vec<u8>, Memory>
@@ -56,18 +53,6 @@ fn written(alloc: Global, block: &Block) -> Result<Vec<u8>, Memory>
 {
     let query = rewrite(alloc, block)?;
     write_sql(alloc, &query)
-}
-
-// The answer of a statement by its SQL query.
-fn executed(alloc: Global, tables: &TableSet, block: &Block) -> Result<Vec<u8>, Memory>
-    requires { IsAnswerable tables.now block.now }
-    ensures { IfOk result (λ text. text.items ≡ text_of_answer (answer_of tables.now block.now)) }
-{
-    tables.keeps_limits();
-    writes_fitting(block);
-    let query = rewrite(alloc, block)?;
-    let answer = execute(alloc, &query, tables)?;
-    answer_text(alloc, &answer)
 }
 
 // What is shown of a statement.
@@ -135,10 +120,10 @@ fn write_all_shown<O: Sink>(
     Ok(())
 }
 
-// Writes the texts of a task, and the lines for counts where they are to be told.
-fn write_task<O: Sink, E: Sink, L: Ledger>(
+// Writes what is wished of statements, and the lines for counts where they are to be told.
+fn write_wish<O: Sink, E: Sink, L: Ledger>(
     alloc: Global,
-    task: Task,
+    wish: Wish,
     tables: &TableSet,
     blocks: &[Block],
     out: &mut O,
@@ -146,14 +131,14 @@ fn write_task<O: Sink, E: Sink, L: Ledger>(
     steps: &mut Steps<L>,
 ) -> Result<(), Halt>
     requires { All (IsAnswerable tables.now) blocks.now }
-    ensures wrote { WritesTask task tables.now blocks.now (O.faults out.old) (O.faults out.new) (O.written out.old) (O.written out.new)
+    ensures wrote { WritesOrHalts (Statements wish tables.now blocks.now) (O.faults out.old) (O.faults out.new) (O.written out.old) (O.written out.new)
         (E.faults err.old) (E.faults err.new) (E.written err.old) (E.written err.new) steps.old steps.new result }
     ensures kept { (IsErrOf result Halt.WriteFault → ⊥)
         → (O.faults out.new ≡ O.faults out.old) × (E.faults err.new ≡ E.faults err.old) }
 {
-    match task {
-        Task::Answer(tells) => write_answers(alloc, tells, tables, blocks, out, err, steps),
-        Task::Show(shown) => write_all_shown(alloc, shown, tables, blocks, out),
+    match wish {
+        Wish::Answer(tells) => write_answers(alloc, tells, tables, blocks, out, err, steps),
+        Wish::Show(shown) => write_all_shown(alloc, shown, tables, blocks, out),
     }
 }
 
@@ -177,6 +162,29 @@ fn write_bench<O: Sink, L: Ledger>(
     Ok(())
 }
 
+// Writes the texts of the work, and what is due beside them.
+fn write_texts<O: Sink, E: Sink, L: Ledger>(
+    alloc: Global,
+    work: &Work,
+    out: &mut O,
+    err: &mut E,
+    steps: &mut Steps<L>,
+) -> Result<(), Halt>
+    requires { HasTexts work.now }
+    ensures wrote { WritesOrHalts work.now (O.faults out.old) (O.faults out.new) (O.written out.old) (O.written out.new)
+        (E.faults err.old) (E.faults err.new) (E.written err.old) (E.written err.new) steps.old steps.new result }
+    ensures kept { (IsErrOf result Halt.WriteFault → ⊥)
+        → (O.faults out.new ≡ O.faults out.old) × (E.faults err.new ≡ E.faults err.old) }
+{
+    match work {
+        Work::Statements(wish, tables, blocks) => {
+            write_wish(alloc, *wish, tables, blocks.as_slice(), out, err, steps)
+        }
+        Work::Queries(tables, queries) => write_queries(alloc, tables, queries.as_slice(), out),
+        Work::Bench(count) => write_bench(alloc, *count, out, steps),
+    }
+}
+
 /// Writes what a run has to write on `out`, and what is due beside it on `err`.
 pub(crate) fn write_work<O: Sink, E: Sink, L: Ledger>(
     alloc: Global,
@@ -191,13 +199,7 @@ pub(crate) fn write_work<O: Sink, E: Sink, L: Ledger>(
     ensures kept { (result ≡ Status.WriteFault → ⊥)
         → (O.faults out.new ≡ O.faults out.old) × (E.faults err.new ≡ E.faults err.old) }
 {
-    let written = match work {
-        Work::Statements(task, tables, blocks) => {
-            write_task(alloc, *task, tables, blocks.as_slice(), out, err, steps)
-        }
-        Work::Bench(count) => write_bench(alloc, *count, out, steps),
-    };
-    match written {
+    match write_texts(alloc, work, out, err, steps) {
         Ok(()) => Status::Done,
         Err(Halt::WriteFault) => Status::WriteFault,
         Err(Halt::Memory) => Status::Memory,

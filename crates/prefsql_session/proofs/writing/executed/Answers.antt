@@ -1,7 +1,0 @@
-use Rattle.std.proofs.Common.{subst, sym}
-use Rattle.sql_tree.specs.Fits.{FitsTables}
-use Rattle.prefsql_session.proofs.writing.executed.Goals as goal
-
-pub execute-requires-clause-fits : goal.execute-requires-clause-fits
-execute-requires-clause-fits c =
-    subst (FitsTables c.args.tables.now) (sym c.in_ok-query.ensures.written) (c.writes_fitting.ensures.fits c.args.tables.now c.requires.fits)
