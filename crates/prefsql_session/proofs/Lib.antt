@@ -1,5 +1,6 @@
 mod AnswerLemmas
 mod EachLemmas
+mod ExecutedLemmas
 mod Follow
 mod Meaning
 mod BenchLemmas

@@ -1,6 +1,7 @@
 -- What the SQL text of statements says to whoever reads it, and what its queries mean. This is this
 -- project's own.
-use Rattle.std.specs.Prelude.{◌≡◌, ◌≤◌, ⊤, List, [], ◌∷◌, All, IsUtf8, length}
+use Rattle.std.specs.Prelude.{◌≡◌, ◌≤◌, ℕ, ⊤, List, [], ◌∷◌, All, IsUtf8, Option, length}
+use Rattle.prefsql_io.specs.Files.{Files}
 use Rattle.prefsql_tables.specs.Table.{Tables}
 use Rattle.query_meaning.specs.declared.block.Block.{Block}
 use Rattle.rewritten_query.specs.Rewriting.{rewritten}
@@ -9,9 +10,12 @@ use Rattle.sql_reader.specs.Reads.{ReadsAs}
 use Rattle.sql_text.specs.Text.{text_of}
 use Rattle.sql_tree.specs.declared.tree.SqlQuery.{SqlQuery}
 use Rattle.written_script.specs.WrittenScript.{IsOther, answers_of_blocks, answers_of_queries, script_of, written}
+use Rattle.prefsql_session.specs.Opening.{opening, over}
 use Rattle.prefsql_session.specs.Stage.{Stage, ready}
+use Rattle.prefsql_session.specs.Texts as texts
 use Rattle.prefsql_session.specs.declared.command.Shown.{Shown}
 use Rattle.prefsql_session.specs.declared.command.Shown.TheVariants.{Query}
+use Rattle.prefsql_session.specs.declared.command.Task.{Task}
 use Rattle.prefsql_session.specs.declared.command.Wish.TheVariants.{Show}
 use Rattle.prefsql_session.specs.declared.work.Work.{Work}
 use Rattle.prefsql_session.specs.declared.work.Work.TheVariants.{Statements}
@@ -40,6 +44,18 @@ pub record AreWritten (tables : Tables) (blocks : List Block) : Type 0 where
 abbrev pub IsWrittenAt : Stage Work → Type 0
 IsWrittenAt (ready (Statements (Show Query) tables blocks)) = AreWritten tables blocks
 IsWrittenAt end = ⊤
+
+-- the words and the files lead to this task over these tables
+abbrev pub OpensWith : List (List ℕ) → Option Files → Task → Tables → Type 0
+OpensWith words files task tables = opening words files ≡ ready (over task tables)
+
+-- two runs come to good ends, and write the same text
+pub record WriteTheSame (One Other : Stage Work → Type 0) : Type 0 where
+  pub one : Work
+  pub other : Work
+  pub comes : One (ready one)
+  pub other_comes : Other (ready other)
+  pub same : texts.text_of one ≡ texts.text_of other
 
 -- SQL texts are UTF-8
 abbrev pub AreUtf8 : Shown → List Block → Type 0

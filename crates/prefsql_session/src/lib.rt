@@ -9,6 +9,7 @@ mod executing;
 mod fault;
 mod fault_line;
 mod halt;
+mod laws;
 mod prepare;
 mod reader;
 mod script;
@@ -20,6 +21,7 @@ mod writing;
 
 use command::{Command, Shown, TableWord, Task, Wish};
 use command_line::accepted;
+pub use laws::written_text_executes;
 pub use session::{Status, run};
 
 #[cfg(test)]

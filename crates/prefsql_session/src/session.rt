@@ -72,12 +72,12 @@ fn refuse_words<E: Sink>(err: &mut E) -> Status
     put(err, USAGE.as_bytes(), Status::Usage)
 }
 
-/// Runs the program over these words, which are those after its name: `answer`, `explain`, `rewrite`
-/// or `via`, at most eight table words `NAME=PATH`, one `--`, and after `answer` one `--stats`; or
-/// `bench`, one `--` and a number of rows from 1 to 100,000. What
-/// the words, the files and the script come to is the run's course, and what the run writes and how it
-/// ends follow from that, want of memory and the faults of the four outer objects. A step is one
-/// comparison of a base preference.
+/// Runs the program over these words, which are those after its name: `answer`, `explain`, `rewrite`,
+/// `via` or `execute`, at most eight table words `NAME=PATH`, one `--`, and after `answer` one
+/// `--stats`; or `bench`, one `--` and a number of rows from 1 to 100,000. What the words, the files
+/// and the script come to is the run's course, and what the run writes and how it ends follow from
+/// that, want of memory and the faults of the four outer objects. A step is one comparison of a base
+/// preference.
 pub fn run<S: Source, O: Sink, E: Sink, H: Shelf, L: Ledger>(
     alloc: Global,
     words: &[Text],

@@ -1,6 +1,22 @@
 //! What scripts answer over the cars and the dealers.
-use super::case::{CHEAPEST, CHEAPEST_CARS, Case, answered, ends};
+use super::case::{CHEAPEST, CHEAPEST_CARS, Case, Ways, answered, ends, ends_each_way};
 use std::test::Fail;
+
+/// Over the cars and the dealers.
+const OVER_CARS: Ways<'static> = [
+    &["answer", "CARS=cars.csv", "DEALERS=dealers.csv"],
+    &["via", "CARS=cars.csv", "DEALERS=dealers.csv"],
+    &["rewrite", "CARS=cars.csv", "DEALERS=dealers.csv"],
+    &["execute", "CARS=cars.csv", "DEALERS=dealers.csv"],
+];
+
+/// Over a table T.
+const OVER_T: Ways<'static> = [
+    &["answer", "T=t.csv"],
+    &["via", "T=t.csv"],
+    &["rewrite", "T=t.csv"],
+    &["execute", "T=t.csv"],
+];
 
 #[test]
 fn ids_of_cars(rt: HostRuntime) -> Result<(), Fail> {
@@ -67,12 +83,7 @@ fn ids_of_cars(rt: HostRuntime) -> Result<(), Fail> {
     ] {
         let script = format!(in alloc; "SELECT id FROM cars {end}")?;
         let case = answered(script.as_bytes(), out);
-        let by_query = Case {
-            words: &["via", "CARS=cars.csv", "DEALERS=dealers.csv"],
-            ..case
-        };
-        assert!(rt; ends(alloc, &case)?, "{end}");
-        assert!(rt; ends(alloc, &by_query)?, "{end}");
+        assert!(rt; ends_each_way(alloc, &case, OVER_CARS)?, "{end}");
     }
     Ok(())
 }
@@ -101,12 +112,7 @@ fn whole_answers(rt: HostRuntime) -> Result<(), Fail> {
         ),
     ] {
         let case = answered(script.as_bytes(), out);
-        let by_query = Case {
-            words: &["via", "CARS=cars.csv", "DEALERS=dealers.csv"],
-            ..case
-        };
-        assert!(rt; ends(alloc, &case)?, "{script}");
-        assert!(rt; ends(alloc, &by_query)?, "{script}");
+        assert!(rt; ends_each_way(alloc, &case, OVER_CARS)?, "{script}");
     }
     Ok(())
 }
@@ -137,16 +143,10 @@ fn answers_over_other_tables(rt: HostRuntime) -> Result<(), Fail> {
         ),
     ] {
         let case = Case {
-            words: &["answer", "T=t.csv"],
             files: &[("t.csv", file)],
             ..answered(script.as_bytes(), out)
         };
-        let by_query = Case {
-            words: &["via", "T=t.csv"],
-            ..case
-        };
-        assert!(rt; ends(alloc, &case)?, "{script}");
-        assert!(rt; ends(alloc, &by_query)?, "{script}");
+        assert!(rt; ends_each_way(alloc, &case, OVER_T)?, "{script}");
     }
     Ok(())
 }

@@ -61,12 +61,26 @@ pub(super) fn refused<'a>(script: &'a [u8], err: &'a str) -> Case<'a> {
     }
 }
 
-/// Whether the run ends so.
-pub(super) fn ends(alloc: Global, case: &Case<'_>) -> Result<bool, Memory> {
-    counted_ends::<Brand>(alloc, case, Blank::new(1))
+/// The words of `answer`, `via`, `rewrite` and `execute` over the same tables.
+pub(super) type Ways<'a> = [&'a [&'a str]; 4];
+
+/// Runs the program over memory forms.
+fn run_case(
+    alloc: Global,
+    case: &Case<'_>,
+    out: &mut MemorySink,
+    err: &mut MemorySink,
+) -> Result<Status, Memory> {
+    counted_run::<Brand>(alloc, case, out, err, Blank::new(1))
 }
 
-fn counted_ends<L: Ledger>(alloc: Global, case: &Case<'_>, blank: Blank) -> Result<bool, Memory>
+fn counted_run<L: Ledger>(
+    alloc: Global,
+    case: &Case<'_>,
+    out: &mut MemorySink,
+    err: &mut MemorySink,
+    blank: Blank,
+) -> Result<Status, Memory>
     requires name { blank.name ≡ L.name }
     requires parts { blank.parts ≡ L.parts }
     requires one { blank.parts ≡ 1 }
@@ -81,21 +95,69 @@ fn counted_ends<L: Ledger>(alloc: Global, case: &Case<'_>, blank: Blank) -> Resu
     }
     let text = Vec::from_slice(alloc, case.script)?;
     let mut script = MemorySource::new(text, 7, Vec::from_slice(alloc, &[case.failing_read])?);
-    let mut out = MemorySink::new(alloc, case.out_room, 3, Vec::new(alloc))?;
-    let mut err = MemorySink::new(alloc, case.err_room, 3, Vec::new(alloc))?;
     let mut steps = Steps::<L>::new(blank);
-    let status = run(
+    Ok(run(
         alloc,
         &words,
         &mut script,
-        &mut out,
-        &mut err,
+        out,
+        err,
         &mut shelf,
         &mut steps,
-    );
+    ))
+}
+
+/// Whether the run ends so.
+pub(super) fn ends(alloc: Global, case: &Case<'_>) -> Result<bool, Memory> {
+    let mut out = MemorySink::new(alloc, case.out_room, 3, Vec::new(alloc))?;
+    let mut err = MemorySink::new(alloc, case.err_room, 3, Vec::new(alloc))?;
+    let status = run_case(alloc, case, &mut out, &mut err)?;
     Ok(
         status == case.status
             && out.written() == case.out.as_bytes()
             && err.written() == case.err.as_bytes(),
+    )
+}
+
+/// Whether the run ends so where its script is written in SQL by these words, and that is executed by
+/// the others.
+fn executes(
+    alloc: Global,
+    case: &Case<'_>,
+    rewrite: &[&str],
+    execute: &[&str],
+) -> Result<bool, Memory> {
+    let written = Case {
+        words: rewrite,
+        ..*case
+    };
+    let mut text = MemorySink::new(alloc, 20_000, 3, Vec::new(alloc))?;
+    let mut err = MemorySink::new(alloc, case.err_room, 3, Vec::new(alloc))?;
+    let status = run_case(alloc, &written, &mut text, &mut err)?;
+    let executed = Case {
+        words: execute,
+        script: text.written(),
+        ..*case
+    };
+    Ok(status == Status::Done && ends(alloc, &executed)?)
+}
+
+/// Whether the script is answered so each way: by its plan, by its SQL query, and by the SQL that is
+/// written first and then executed.
+pub(super) fn ends_each_way(
+    alloc: Global,
+    case: &Case<'_>,
+    ways: Ways<'_>,
+) -> Result<bool, Memory> {
+    let [answer, via, rewrite, execute] = ways;
+    let by_plan = Case {
+        words: answer,
+        ..*case
+    };
+    let by_query = Case { words: via, ..*case };
+    Ok(
+        ends(alloc, &by_plan)?
+            && ends(alloc, &by_query)?
+            && executes(alloc, case, rewrite, execute)?,
     )
 }

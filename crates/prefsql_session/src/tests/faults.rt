@@ -108,7 +108,13 @@ fn faults_of_scripts(rt: HostRuntime) -> Result<(), Fail> {
         );
     }
     let no_text = refused(b"\xff", "error E107 at byte 0\n");
-    assert!(rt; ends(alloc, &no_text)?);
+    for words in [["answer"], ["via"], ["execute"]] {
+        let case = Case {
+            words: &words,
+            ..no_text
+        };
+        assert!(rt; ends(alloc, &case)?);
+    }
     Ok(())
 }
 
@@ -205,7 +211,7 @@ fn faults_of_tables(rt: HostRuntime) -> Result<(), Fail> {
 #[test]
 fn words_of_command_lines(rt: HostRuntime) -> Result<(), Fail> {
     let alloc = rt.alloc();
-    let words: [&[&str]; 18] = [
+    let words: [&[&str]; 20] = [
         &[],
         &[""],
         &["answer", "CARS"],
@@ -221,6 +227,8 @@ fn words_of_command_lines(rt: HostRuntime) -> Result<(), Fail> {
         &["bench", "+1"],
         &["bench", "1", "--stats"],
         &["explain", "--stats"],
+        &["via", "--stats"],
+        &["execute", "--stats"],
         &["answer", "--", "--"],
         &["--", "answer"],
         &["help"],

@@ -1,5 +1,6 @@
 //! What SQL scripts answer over the cars, and their first faults.
 use super::case::{Case, answered, ends, refused};
+use crate::Status;
 use std::alloc::Global;
 use std::test::Fail;
 
@@ -26,6 +27,23 @@ fn answers_of_queries(rt: HostRuntime) -> Result<(), Fail> {
         (
             "SELECT id FROM cars WHERE NOT dealer = 'north'",
             "ID\n3\n\n",
+        ),
+        (
+            "SELECT id, CASE WHEN price BETWEEN 38000 AND 40000 THEN 'mid' WHEN price NOT BETWEEN 1 AND 45000 THEN 'high' END AS band FROM cars WHERE dealer IS NOT NULL OR id > 4 AND (power > 100 AND color NOT IN ('red', 'grey'))",
+            "ID,BAND\n1,mid\n2,mid\n3,\n5,high\n\n",
+        ),
+        (
+            "SELECT d, 1 AS one FROM (SELECT DISTINCT dealer AS d FROM cars) t",
+            "D,ONE\nnorth,1\nsouth,1\n,1\n\n",
+        ),
+        (
+            "SELECT c.id FROM cars c WHERE c.price = 1 AND EXISTS (SELECT 1 FROM dealers)",
+            "ID\n\n",
+        ),
+        // 5 to the power of 20 combinations, of which the first one is enough
+        (
+            "SELECT id FROM cars WHERE id = 1 AND EXISTS (SELECT 1 FROM cars a, cars b, cars c, cars d, cars e, cars f, cars g, cars h, cars i, cars j, cars k, cars l, cars m, cars n, cars o, cars p, cars q, cars r, cars s, cars t)",
+            "ID\n1\n\n",
         ),
     ] {
         let case = Case {
@@ -64,6 +82,27 @@ fn first_faults(rt: HostRuntime) -> Result<(), Fail> {
             "error E305 at byte 34\n",
         ),
         ("SELECT id FROM cars ORDER BY 2", "error E316 at byte 29\n"),
+        ("SELECT id FROM cars WHERE id != 1", "error E101 at byte 29\n"),
+        (
+            "SELECT id FROM cars WHERE color = 'red",
+            "error E102 at byte 34\n",
+        ),
+        (
+            "SELECT v FROM big WHERE v = 1000000000000000000",
+            "error E103 at byte 28\n",
+        ),
+        ("SELECT id FROM cars, cars", "error E302 at byte 21\n"),
+        ("SELECT id FROM cars a, cars b", "error E304 at byte 7\n"),
+        ("SELECT id FROM cars ORDER BY size", "error E314 at byte 29\n"),
+        (
+            "SELECT id, power AS id FROM cars ORDER BY id",
+            "error E315 at byte 42\n",
+        ),
+        // a derived table sees none of its neighbours
+        (
+            "SELECT x.id FROM cars c, (SELECT c.id FROM cars d) x",
+            "error E303 at byte 33\n",
+        ),
     ] {
         let case = Case {
             words: &["execute", "CARS=cars.csv", "DEALERS=dealers.csv"],
@@ -71,6 +110,52 @@ fn first_faults(rt: HostRuntime) -> Result<(), Fail> {
         };
         assert!(rt; ends(alloc, &case)?, "{script}");
     }
+    Ok(())
+}
+
+// The limits of a script in SQL.
+#[test]
+fn as_deep_as_the_limit_allows(rt: HostRuntime) -> Result<(), Fail> {
+    let alloc = rt.alloc();
+    for (count, status, out, err) in [
+        (256, Status::Done, "ID\n1\n\n", ""),
+        (257, Status::Refused, "", "error E104 at byte 282\n"),
+    ] {
+        let open = "(".repeat(alloc, count)?;
+        let close = ")".repeat(alloc, count)?;
+        let script = format!(in alloc; "SELECT id FROM cars WHERE {open}id = 1{close}")?;
+        let case = Case {
+            words: &["execute", "CARS=cars.csv"],
+            status,
+            err,
+            ..answered(script.as_bytes(), out)
+        };
+        assert!(rt; ends(alloc, &case)?, "{count}");
+    }
+    let many = "SELECT id FROM cars;".repeat(alloc, 65)?;
+    let case = Case {
+        words: &["execute", "CARS=cars.csv"],
+        ..refused(many.as_bytes(), "error E203 at byte 1280\n")
+    };
+    assert!(rt; ends(alloc, &case)?);
+    Ok(())
+}
+
+// As many FROM items as one likes, one row of each.
+#[test]
+fn many_tables(rt: HostRuntime) -> Result<(), Fail> {
+    let alloc = rt.alloc();
+    let mut script = String::from_str(alloc, "SELECT 1 AS one FROM t")?;
+    for number in 0..20_000 {
+        let item = format!(in alloc; ", t t{number}")?;
+        script.push_str(item.as_str())?;
+    }
+    let case = Case {
+        words: &["execute", "T=t.csv"],
+        files: &[("t.csv", "a INTEGER\n1")],
+        ..answered(script.as_bytes(), "ONE\n1\n\n")
+    };
+    assert!(rt; ends(alloc, &case)?);
     Ok(())
 }
 

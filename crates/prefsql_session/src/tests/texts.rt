@@ -29,15 +29,27 @@ fn plans(rt: HostRuntime) -> Result<(), Fail> {
 }
 
 #[test]
-fn an_sql_query(rt: HostRuntime) -> Result<(), Fail> {
-    let case = Case {
-        words: &["rewrite", "CARS=cars.csv", "DEALERS=dealers.csv"],
-        ..answered(
-            b"SELECT id FROM cars PREFERRING LOWEST(price) GROUPING dealer",
+fn sql_queries(rt: HostRuntime) -> Result<(), Fail> {
+    for (script, out) in [
+        (
+            "SELECT id FROM cars PREFERRING LOWEST(price) GROUPING dealer",
             "SELECT \"A1\".\"C1\" AS \"ID\" FROM (SELECT \"T1\".\"ID\" AS \"C1\", \"T1\".\"DEALER\" AS \"C2\", \"T1\".\"PRICE\" AS \"L1\" FROM \"CARS\" AS \"T1\") AS \"A1\" WHERE NOT EXISTS (SELECT 1 AS \"X1\" FROM (SELECT \"T1\".\"ID\" AS \"C1\", \"T1\".\"DEALER\" AS \"C2\", \"T1\".\"PRICE\" AS \"L1\" FROM \"CARS\" AS \"T1\") AS \"A2\" WHERE (\"A2\".\"C2\" = \"A1\".\"C2\" OR \"A2\".\"C2\" IS NULL AND \"A1\".\"C2\" IS NULL) AND \"A2\".\"L1\" < \"A1\".\"L1\");\n",
-        )
-    };
-    assert!(rt; ends(rt.alloc(), &case)?);
+        ),
+        (
+            "SELECT DISTINCT id, dealer AS shop FROM cars WHERE NOT (id = -1 OR dealer IS NULL) AND price NOT BETWEEN 1 AND 2 AND color NOT IN ('it''s') ORDER BY shop DESC, 1",
+            "SELECT DISTINCT \"T1\".\"ID\" AS \"ID\", \"T1\".\"DEALER\" AS \"SHOP\" FROM \"CARS\" AS \"T1\" WHERE NOT (\"T1\".\"ID\" = -1 OR \"T1\".\"DEALER\" IS NULL) AND \"T1\".\"PRICE\" NOT BETWEEN 1 AND 2 AND \"T1\".\"COLOR\" NOT IN ('it''s') ORDER BY 2 DESC, 1 ASC;\n",
+        ),
+        (
+            "SELECT c.id FROM cars c, dealers d WHERE (c.id > 1 AND d.city IS NOT NULL OR c.id <= 5) AND c.price BETWEEN 1 AND 2",
+            "SELECT \"T1\".\"ID\" AS \"ID\" FROM \"CARS\" AS \"T1\", \"DEALERS\" AS \"T2\" WHERE (\"T1\".\"ID\" > 1 AND \"T2\".\"CITY\" IS NOT NULL OR \"T1\".\"ID\" <= 5) AND \"T1\".\"PRICE\" BETWEEN 1 AND 2;\n",
+        ),
+    ] {
+        let case = Case {
+            words: &["rewrite", "CARS=cars.csv", "DEALERS=dealers.csv"],
+            ..answered(script.as_bytes(), out)
+        };
+        assert!(rt; ends(rt.alloc(), &case)?, "{script}");
+    }
     Ok(())
 }
 
