@@ -20,11 +20,10 @@ group_of groups see combos x = filter (λ y. is_same_group groups (see y) (see x
 abbrev pub tests_between : List ColumnPlace → (Combo → Sight) → List Combo → List Combo → ℕ
 tests_between groups see ins outs = sum_by (λ x. length (group_of groups see outs x)) ins
 
--- what a plan gives; and over its Bests and their groups the sums of the square of the rows in, of
--- the rows in times the rows out, and of the rows in less the rows out
+-- what a plan gives; and over its Bests and their groups the sums of the rows in times the rows out,
+-- and of the rows in less the rows out
 pub record Tested : Type 0 where
   pub found : Found
-  pub squares : ℕ
   pub bound : ℕ
   pub floor : ℕ
 
@@ -32,19 +31,16 @@ module _ (tables : Tables) (block : Block) where
   abbrev pub tested_step : Plan-F Tested → Tested
   tested_step (Plan-F.Scan table) = record {
     found = plan_step tables block (Plan-F.Scan table);
-    squares = 0;
     bound = 0;
     floor = 0;
   }
   tested_step (Plan-F.Filter conjuncts below) = record {
     found = plan_step tables block (Plan-F.Filter conjuncts below.found);
-    squares = below.squares;
     bound = below.bound;
     floor = below.floor;
   }
   tested_step (Plan-F.Join left right) = record {
     found = plan_step tables block (Plan-F.Join left.found right.found);
-    squares = left.squares + right.squares;
     bound = left.bound + right.bound;
     floor = left.floor + right.floor;
   }
@@ -54,7 +50,6 @@ module _ (tables : Tables) (block : Block) where
       let ins = below.found.combos in
       record {
         found = found;
-        squares = below.squares + tests_between groups see ins ins;
         bound = below.bound + tests_between groups see ins found.combos;
         floor = below.floor + (length ins - length found.combos);
       }

@@ -20,7 +20,7 @@ use std::sync::ledger::Ledger;
 /// How a run ended. The program ends with its number, from 0 to 6 in the order of this list.
 #[derive(Clone, Copy, Debug, PartialEq, Eq)]
 pub enum Status {
-    /// The script was read to its end, and the whole text stands on `out`.
+    /// The script was read to its end, where one is asked for, and the whole text stands on `out`.
     Done,
     /// A table word, a table file or the script has a fault, and the line of the first one stands on `err`.
     Refused,

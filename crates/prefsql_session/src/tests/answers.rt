@@ -69,6 +69,14 @@ fn ids_of_cars(rt: HostRuntime) -> Result<(), Fail> {
         ),
         ("PREFERRING color <> 'red'", "ID\n2\n4\n5\n\n"),
         (
+            "PREFERRING color = 'red' BUT ONLY LEVEL(color) > 1",
+            "ID\n\n",
+        ),
+        (
+            "PREFERRING power IN (180, 200) TRIVIAL CASCADE LOWEST(price)",
+            "ID\n1\n2\n4\n\n",
+        ),
+        (
             "PREFERRING color = 'green' ELSE color = 'grey'",
             "ID\n4\n\n",
         ),

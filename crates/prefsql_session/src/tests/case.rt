@@ -119,6 +119,21 @@ pub(super) fn ends(alloc: Global, case: &Case<'_>) -> Result<bool, Memory> {
     )
 }
 
+/// Whether the run is done twice with the same text, which begins so.
+pub(super) fn ends_twice(alloc: Global, case: &Case<'_>, front: &str) -> Result<bool, Memory> {
+    let mut one = MemorySink::new(alloc, case.out_room, 3, Vec::new(alloc))?;
+    let mut other = MemorySink::new(alloc, case.out_room, 3, Vec::new(alloc))?;
+    let mut err = MemorySink::new(alloc, case.err_room, 3, Vec::new(alloc))?;
+    let first = run_case(alloc, case, &mut one, &mut err)?;
+    let second = run_case(alloc, case, &mut other, &mut err)?;
+    Ok(
+        first == Status::Done
+            && second == Status::Done
+            && one.written() == other.written()
+            && one.written().starts_with(front.as_bytes()),
+    )
+}
+
 /// Whether the run ends so where its script is written in SQL by these words, and that is executed by
 /// the others.
 fn executes(

@@ -49,6 +49,41 @@ fn each_device_fails(rt: HostRuntime) -> Result<(), Fail> {
             ..answer
         },
         Case {
+            words: &["explain", "CARS=cars.csv"],
+            out_room: 4,
+            status: Status::WriteFault,
+            out: "best",
+            ..answer
+        },
+        Case {
+            words: &["explain", "CARS=cars.csv"],
+            ..refusal
+        },
+        Case {
+            words: &["rewrite", "CARS=cars.csv"],
+            out_room: 6,
+            status: Status::WriteFault,
+            out: "SELECT",
+            ..answer
+        },
+        Case {
+            words: &["rewrite", "CARS=cars.csv"],
+            ..refusal
+        },
+        Case {
+            words: &["rewrite", "CARS=cars.csv"],
+            script: b"",
+            out: "",
+            ..answer
+        },
+        Case {
+            words: &[],
+            err_room: 0,
+            status: Status::WriteFault,
+            err: "",
+            ..refusal
+        },
+        Case {
             words: &["answer", "T=t.csv", "U=u.csv"],
             files: &[("t.csv", "a TEXT")],
             script: b"",

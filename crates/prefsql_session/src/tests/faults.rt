@@ -36,6 +36,7 @@ fn faults_of_scripts(rt: HostRuntime) -> Result<(), Fail> {
         ("SELECT id FROM cars a, cars b", 304, 7),
         ("SELECT id FROM cars WHERE color = 5", 305, 34),
         ("SELECT id FROM cars PREFERRING LOWEST(color)", 307, 38),
+        ("SELECT id FROM cars PREFERRING LOWEST(c)", 303, 38),
         (
             "SELECT id FROM cars PREFERRING price BETWEEN 5 AND 4",
             310,
@@ -177,6 +178,8 @@ fn faults_of_tables(rt: HostRuntime) -> Result<(), Fail> {
         ("a NUMBER", 501, 1, 1),
         ("a INTEGER,A TEXT", 502, 1, 2),
         ("a INTEGER,b TEXT\n1", 503, 2, 0),
+        ("a INTEGER,b TEXT\n1,x\n2,y\n3", 503, 4, 0),
+        ("\n\n\n ", 501, 1, 1),
         ("a INTEGER NOT NULL\n1\nx", 504, 3, 1),
         ("a INTEGER\n1000000000000000000", 505, 2, 1),
         ("a INTEGER NOT NULL,b TEXT\n,x", 506, 2, 1),

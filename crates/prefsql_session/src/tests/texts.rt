@@ -1,5 +1,5 @@
 //! The plans and the SQL queries of scripts over the cars and the dealers, counts of tests, and the bench.
-use super::case::{CHEAPEST, CHEAPEST_CARS, Case, answered, ends};
+use super::case::{CHEAPEST, CHEAPEST_CARS, Case, answered, ends, ends_twice};
 use std::test::Fail;
 
 #[test]
@@ -68,12 +68,35 @@ fn counts_of_tests(rt: HostRuntime) -> Result<(), Fail> {
         "tests 9\n",
         "tests 10\n",
     ];
+    let from_four: &[&str] = &[
+        "tests 4\n",
+        "tests 5\n",
+        "tests 6\n",
+        "tests 7\n",
+        "tests 8\n",
+        "tests 9\n",
+        "tests 10\n",
+        "tests 11\n",
+        "tests 12\n",
+    ];
+    // one row can be tested against itself alone, and without a preference there is no test
+    let of_two_statements: &[&str] = &["tests 0\ntests 0\n", "tests 1\ntests 0\n"];
     for (script, out, lines) in [
         (CHEAPEST, CHEAPEST_CARS, from_three),
         (
             "SELECT id FROM cars PREFERRING LOWEST(price) GROUPING dealer",
             "ID\n2\n3\n4\n\n",
             from_two,
+        ),
+        (
+            "SELECT id FROM cars PREFERRING color = 'red' CASCADE LOWEST(price)",
+            "ID\n1\n\n",
+            from_four,
+        ),
+        (
+            "SELECT city FROM dealers WHERE city = 'Ulm' PREFERRING city = 'Ulm'; SELECT id FROM cars WHERE id = 1",
+            "CITY\nUlm\n\nID\n1\n\n",
+            of_two_statements,
         ),
     ] {
         let mut ways = 0;
@@ -89,6 +112,17 @@ fn counts_of_tests(rt: HostRuntime) -> Result<(), Fail> {
         }
         assert_eq!(rt; ways, 1);
     }
+    Ok(())
+}
+
+// The bench is the same each time.
+#[test]
+fn the_bench_twice(rt: HostRuntime) -> Result<(), Fail> {
+    let case = Case {
+        words: &["bench", "20000"],
+        ..answered(b"", "")
+    };
+    assert!(rt; ends_twice(rt.alloc(), &case, "bench 20000\n")?);
     Ok(())
 }
 
