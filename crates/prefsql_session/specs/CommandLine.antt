@@ -18,14 +18,17 @@ use Rattle.prefsql_session.specs.declared.command.Shown.TheVariants.{Plan, Query
 -- what each item gives, where each gives something
 abbrev pub each : {X Y : Type 0} → (X → Option Y) → List X → Option (List Y)
 each give [] = Some []
-each give (item ∷ items) = option_and_then (λ first. option_map (λ rest. first ∷ rest) (each give items)) (give item)
+each give (item ∷ items) =
+    option_and_then (λ first. option_map (λ rest. first ∷ rest) (each give items)) (give item)
 
 -- an ASCII letter, and then ASCII letters, digits and `_`
 abbrev pub is_identifier : List ℕ → Bool
 is_identifier [] = false
-is_identifier (c ∷ cs) = is_ascii_alphabetic c && list_all (λ d. is_ascii_alphanumeric d || d == 95) cs
+is_identifier (c ∷ cs) =
+    is_ascii_alphabetic c && list_all (λ d. is_ascii_alphanumeric d || d == 95) cs
 
--- a regular identifier of at most 64 characters, then `=`, then a path that is not empty; the name in upper case
+-- a regular identifier of at most 64 characters, then `=`, then a path that is not empty; the name
+-- in upper case
 abbrev pub table_word : List ℕ → Option TableWord
 table_word word =
     let name = before_first (λ c. c == 61) word in
@@ -78,7 +81,8 @@ bench_count words = None
 -- a command on a script, with these further words
 abbrev pub script_command : List ℕ → Bool → List (List ℕ) → Option Command
 script_command name counts words =
-    option_and_then (λ task. option_map (OnScript task) (table_words words)) (task_named name counts)
+    option_and_then (λ task. option_map (OnScript task) (table_words words))
+    (task_named name counts)
 
 -- a command of this name, with `--stats` or without, and with these further words
 abbrev pub command_of : List ℕ → Bool → List (List ℕ) → Option Command
@@ -110,10 +114,12 @@ stats_among words = count_by is_stats (before_first is_end words)
 
 -- the words after a command without that flag and without the first word `--`
 abbrev pub operands : List (List ℕ) → List (List ℕ)
-operands words = filter (λ word. not (is_stats word)) (before_first is_end words) ++ after_first is_end words
+operands words =
+    filter (λ word. not (is_stats word)) (before_first is_end words) ++ after_first is_end words
 
 -- what the words of a command line mean, where they are accepted
 abbrev pub accepted : List (List ℕ) → Option Command
 accepted [] = None
 accepted (name ∷ words) =
-    if nat_le (stats_among words) 1 then command_of name (stats_among words == 1) (operands words) else None
+    if nat_le (stats_among words) 1 then command_of name (stats_among words == 1) (operands words)
+    else None

@@ -1,4 +1,5 @@
--- The course of a run: what the words, the files and the script come to. All of it is this project's own.
+-- The course of a run: what the words, the files and the script come to. All of it is this
+-- project's own.
 use Rattle.std.specs.Prelude.{◌≡◌, ℕ, List, Option, None, Some}
 use Rattle.prefsql_io.specs.Files.{Files}
 use Rattle.prefsql_tables.specs.Table.{Tables}

@@ -12,12 +12,14 @@ usage_line = codes "usage: prefsql COMMAND [--stats] [NAME=PATH ...] or prefsql 
 -- as `error E504 in table CARS record 3 field 1`
 abbrev pub table_fault_line : List ℕ → TableSpot → List ℕ
 table_fault_line name spot =
-    codes "error E" ++ decimal spot.code ++ codes " in table " ++ name ++ codes " record " ++ decimal spot.at_record
+    codes "error E" ++ decimal spot.code ++ codes " in table " ++ name ++ codes " record "
+    ++ decimal spot.at_record
     ++ codes " field " ++ decimal spot.at_field ++ codes "\n"
 
 -- as `error E306 at byte 41`
 abbrev pub script_fault_line : Spot → List ℕ
-script_fault_line spot = codes "error E" ++ decimal spot.code ++ codes " at byte " ++ decimal spot.at ++ codes "\n"
+script_fault_line spot =
+    codes "error E" ++ decimal spot.code ++ codes " at byte " ++ decimal spot.at ++ codes "\n"
 
 -- the line that names a fault
 abbrev pub fault_line : Fault → List ℕ

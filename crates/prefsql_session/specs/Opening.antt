@@ -35,7 +35,9 @@ as_table name (Err spot) = faulty (Table name spot)
 
 -- a file of at most 8,388,608 bytes is read as a table
 abbrev pub table_of_bytes : List ℕ → List ℕ → Stage TableData
-table_of_bytes name bytes = if nat_lt 8388608 (length bytes) then faulty (file_fault name 511) else as_table name (file_table bytes)
+table_of_bytes name bytes =
+    if nat_lt 8388608 (length bytes) then faulty (file_fault name 511)
+    else as_table name (file_table bytes)
 
 -- the bytes at a path
 abbrev pub file_stage : Option Files → List ℕ → Stage (List ℕ)
@@ -63,17 +65,19 @@ tables_after files tables (word ∷ words) =
 -- a name stands twice, or is one of these
 abbrev pub has_repeated : List (List ℕ) → List TableWord → Bool
 has_repeated before [] = false
-has_repeated before (word ∷ words) = is_among before word.name || has_repeated (before ++ word.name ∷ []) words
+has_repeated before (word ∷ words) =
+    is_among before word.name || has_repeated (before ++ word.name ∷ []) words
 
--- That a name stands twice is seen from the words, so such a run has no good end also where the files are not told. Without
--- table words no file is asked for.
+-- That a name stands twice is seen from the words, so such a run has no good end also where the
+-- files are not told. Without table words no file is asked for.
 abbrev pub tables_stage : Option Files → List TableWord → Stage Tables
 tables_stage files words = barred_if (has_repeated [] words) (tables_after files [] words)
 
 -- ---- the opening
 
 abbrev pub job_stage : Option Files → Command → Stage Job
-job_stage files (OnScript task words) = and_then (tables_stage files words) (λ tables. ready (over task tables))
+job_stage files (OnScript task words) =
+    and_then (tables_stage files words) (λ tables. ready (over task tables))
 job_stage files (Bench count) = ready (bench_of count)
 
 -- the words are judged, and then the tables come in

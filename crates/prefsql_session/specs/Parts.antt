@@ -60,7 +60,9 @@ module _ (limit : ℕ) (script : Option (List ℕ)) where
   abbrev pub Reads : Result (Vec ℕ Global) Stop → Type 0
   Reads (Ok text) = (length text.items ≤ limit) × IfSome script (λ all. all ≡ text.items)
   Reads (Err stop.Usage) = ⊥
-  Reads (Err (stop.Refused fault)) = IfSome script (λ all. limit < length all) × (fault ≡ Script (record { code = 106; at = limit }))
+  Reads (Err (stop.Refused fault)) =
+      IfSome script (λ all. limit < length all)
+      × (fault ≡ Script (record { code = 106; at = limit }))
   Reads (Err stop.ReadFault) = ⊤
   Reads (Err stop.ShelfFault) = ⊥
   Reads (Err stop.Memory) = ⊤
@@ -70,7 +72,8 @@ module _ (task : Task) (tables : Tables) (script : Option (List ℕ)) where
   abbrev pub Ends : Result Work Stop → Type 0
   Ends (Ok work) = AtEnd (GoesOn (ready (over task tables)) script) (λ end. MayGive end work)
   Ends (Err stop.Usage) = ⊥
-  Ends (Err (stop.Refused fault)) = AtEnd (GoesOn (ready (over task tables)) script) (λ end. MayHaveFault end fault)
+  Ends (Err (stop.Refused fault)) =
+      AtEnd (GoesOn (ready (over task tables)) script) (λ end. MayHaveFault end fault)
   Ends (Err stop.ReadFault) = ⊤
   Ends (Err stop.ShelfFault) = ⊥
   Ends (Err stop.Memory) = ⊤
@@ -90,65 +93,84 @@ Reading tables text (Err stop.Memory) = ⊤
 Reading tables text (Err other) = ⊥
 
 -- what a body that writes one line to `err` may answer
-module _ (Wanted : List ℕ → Type 0) (done : Status) (before now : ℕ) (old new : Option (List ℕ)) (result : Status) where
+module _ (Wanted : List ℕ → Type 0) (done : Status) (before now : ℕ) (old new : Option (List ℕ))
+    (result : Status) where
   abbrev pub WritesLine : Type 0
-  WritesLine = ((result ≡ done) × GetsAll Wanted old new) ⊎ (((result ≡ WriteFault) × FallsShort Wanted before now old new) ⊎ ((result ≡ Memory) × Keeps old new))
+  WritesLine =
+      ((result ≡ done) × GetsAll Wanted old new)
+      ⊎ (((result ≡ WriteFault) × FallsShort Wanted before now old new)
+      ⊎ ((result ≡ Memory) × Keeps old new))
 
 -- its SQL texts are UTF-8
 abbrev pub IsUtf8Work : Work → Type 0
 IsUtf8Work (Statements (Show shown) tables blocks) = AreUtf8 shown blocks
 IsUtf8Work work = ⊤
 
--- what a body that writes the texts of this work to `out`, and what is due beside them to `err`, may
--- answer, where so many steps were made before and after
+-- what a body that writes the texts of this work to `out`, and what is due beside them to `err`,
+-- may answer, where so many steps were made before and after
 module _ (work : Work) (before now : ℕ) (old new : Option (List ℕ))
     (err_before err_now : ℕ) (err_old err_new : Option (List ℕ)) (start end : ℕ) where
   abbrev pub WritesWork : Status → Type 0
   WritesWork Done =
-      GetsAll (λ text. text ≡ text_of work) old new × Finishes work err_old err_new start end × IsUtf8Work work
+      GetsAll (λ text. text ≡ text_of work) old new × Finishes work err_old err_new start end
+      × IsUtf8Work work
   WritesWork WriteFault =
-      (FallsShort (λ text. text ≡ text_of work) before now old new × GetsFront (IsDueSoFar work) err_old err_new)
-      ⊎ (GetsFront (λ text. text ≡ text_of work) old new × FallsShort (IsDueSoFar work) err_before err_now err_old err_new)
-  WritesWork Memory = GetsFront (λ text. text ≡ text_of work) old new × GetsFront (IsDueSoFar work) err_old err_new
+      (FallsShort (λ text. text ≡ text_of work) before now old new
+      × GetsFront (IsDueSoFar work) err_old err_new)
+      ⊎ (GetsFront (λ text. text ≡ text_of work) old new
+      × FallsShort (IsDueSoFar work) err_before err_now err_old err_new)
+  WritesWork Memory =
+      GetsFront (λ text. text ≡ text_of work) old new × GetsFront (IsDueSoFar work) err_old err_new
   WritesWork status = ⊥
 
 -- what a body that answers one statement may answer
-module _ (tells : Bool) (tables : Tables) (block : Block) (before now : ℕ) (old new : Option (List ℕ))
+module _ (tells : Bool) (tables : Tables) (block : Block) (before now : ℕ)
+    (old new : Option (List ℕ))
     (err_before err_now : ℕ) (err_old err_new : Option (List ℕ)) (start end : ℕ) where
   abbrev pub WritesAnswer : Result ℕ Halt → Type 0
   WritesAnswer (Ok tests) =
-      Appends old new (text_of_answer (answer_of tables block)) × Appends err_old err_new (told_line tells tests)
-      × IsTestCount tables block tests × (start + tests ≤ end) × (tests < last_count → end ≤ start + 8 * tests)
+      Appends old new (text_of_answer (answer_of tables block))
+      × Appends err_old err_new (told_line tells tests)
+      × IsTestCount tables block tests × (start + tests ≤ end)
+      × (tests < last_count → end ≤ start + 8 * tests)
   WritesAnswer (Err halt.WriteFault) =
-      (Rose before now × AppendsLess old new (text_of_answer (answer_of tables block)) × Keeps err_old err_new)
+      (Rose before now × AppendsLess old new (text_of_answer (answer_of tables block))
+      × Keeps err_old err_new)
       ⊎ (Appends old new (text_of_answer (answer_of tables block))
-      × ((tests : ℕ) × IsTestCount tables block tests × Rose err_before err_now × AppendsLess err_old err_new (told_line tells tests)))
+      × ((tests : ℕ) × IsTestCount tables block tests × Rose err_before err_now
+      × AppendsLess err_old err_new (told_line tells tests)))
   WritesAnswer (Err halt.Memory) = Keeps old new × Keeps err_old err_new
 
 -- and one that answers all of them
-module _ (tells : Bool) (tables : Tables) (blocks : List Block) (before now : ℕ) (old new : Option (List ℕ))
+module _ (tells : Bool) (tables : Tables) (blocks : List Block) (before now : ℕ)
+    (old new : Option (List ℕ))
     (err_before err_now : ℕ) (err_old err_new : Option (List ℕ)) (start end : ℕ) where
   abbrev pub AnswersOf : List ℕ → Type 0
   AnswersOf text = text ≡ flat_map (λ block. text_of_answer (answer_of tables block)) blocks
 
   abbrev pub TellsFirst : List ℕ → Type 0
   TellsFirst lines =
-      (n : ℕ) × ((tests : List ℕ) × AreTestCounts tables (take n blocks) tests × (lines ≡ told_lines tells tests))
+      (n : ℕ)
+      × ((tests : List ℕ) × AreTestCounts tables (take n blocks) tests
+      × (lines ≡ told_lines tells tests))
 
   abbrev pub WritesAnswers : Result ⊤ Halt → Type 0
   WritesAnswers (Ok done) =
       GetsAll AnswersOf old new
-      × ((tests : List ℕ) × Takes tables blocks tests start end × Appends err_old err_new (told_lines tells tests))
+      × ((tests : List ℕ) × Takes tables blocks tests start end
+      × Appends err_old err_new (told_lines tells tests))
   WritesAnswers (Err halt.WriteFault) =
       (FallsShort AnswersOf before now old new × GetsFront TellsFirst err_old err_new)
       ⊎ (GetsFront AnswersOf old new × FallsShort TellsFirst err_before err_now err_old err_new)
-  WritesAnswers (Err halt.Memory) = GetsFront AnswersOf old new × GetsFront TellsFirst err_old err_new
+  WritesAnswers (Err halt.Memory) =
+      GetsFront AnswersOf old new × GetsFront TellsFirst err_old err_new
 
 -- the same of a body that stops where it cannot go on
 module _ (work : Work) (before now : ℕ) (old new : Option (List ℕ))
     (err_before err_now : ℕ) (err_old err_new : Option (List ℕ)) (start end : ℕ) where
   abbrev pub WritesOrHalts : Result ⊤ Halt → Type 0
-  WritesOrHalts (Ok done) = WritesWork work before now old new err_before err_now err_old err_new start end Done
+  WritesOrHalts (Ok done) =
+      WritesWork work before now old new err_before err_now err_old err_new start end Done
   WritesOrHalts (Err halt.WriteFault) =
       WritesWork work before now old new err_before err_now err_old err_new start end WriteFault
   WritesOrHalts (Err halt.Memory) =

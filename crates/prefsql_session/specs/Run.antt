@@ -1,5 +1,5 @@
--- What a run writes, and why it ends as it does, by its course. All of it is this project's own. A course is the set of
--- the ends that a run may come to, which is one end.
+-- What a run writes, and why it ends as it does, by its course. All of it is this project's own. A
+-- course is the set of the ends that a run may come to, which is one end.
 use Rattle.std.specs.Prelude.{◌≡◌, ◌⊎◌, ℕ, true, List, [], ◌∷◌, take, ⊤, Option, Some}
 use Rattle.std.specs.Io.KnownBytes.{Appends, Keeps}
 use Rattle.prefsql_bench.specs.BenchTable.{bench_set}
@@ -63,7 +63,8 @@ IsDueSoFarAt end lines = IsDueAt end lines
 -- an answer is counted, and its count is told where it is to be
 abbrev pub Finishes : Work → Option (List ℕ) → Option (List ℕ) → ℕ → ℕ → Type 0
 Finishes (Statements (Answer tells) tables blocks) old new before after =
-    (tests : List ℕ) × Takes tables blocks tests before after × Appends old new (told_lines tells tests)
+    (tests : List ℕ) × Takes tables blocks tests before after
+    × Appends old new (told_lines tells tests)
 Finishes (Statements (Show shown) tables blocks) old new before after = Keeps old new
 Finishes (Queries tables queries) old new before after = Keeps old new
 Finishes (Bench count) old new before after =
@@ -135,11 +136,14 @@ GetsAll Wanted old new = (bytes : List ℕ) × Wanted bytes × Appends old new b
 
 -- nothing, or some front of them was appended
 abbrev pub GetsFront : (List ℕ → Type 0) → Option (List ℕ) → Option (List ℕ) → Type 0
-GetsFront Wanted old new = Keeps old new ⊎ ((bytes : List ℕ) × Wanted bytes × ((n : ℕ) × Appends old new (take n bytes)))
+GetsFront Wanted old new =
+    Keeps old new ⊎ ((bytes : List ℕ) × Wanted bytes × ((n : ℕ) × Appends old new (take n bytes)))
 
 -- less than them was appended, and the sink's count of faults rose
-abbrev pub FallsShort : (List ℕ → Type 0) → (before now : ℕ) → Option (List ℕ) → Option (List ℕ) → Type 0
-FallsShort Wanted before now old new = Rose before now × ((bytes : List ℕ) × Wanted bytes × AppendsLess old new bytes)
+abbrev pub FallsShort : (List ℕ → Type 0) → (before now : ℕ) → Option (List ℕ) → Option (List ℕ)
+    → Type 0
+FallsShort Wanted before now old new =
+    Rose before now × ((bytes : List ℕ) × Wanted bytes × AppendsLess old new bytes)
 
 module _ (Course : Stage Work → Type 0) where
   -- what stands on `out`: a front of the text, and at `Done` all of it
@@ -150,7 +154,8 @@ module _ (Course : Stage Work → Type 0) where
   WritesText status old new = Keeps old new
 
   -- What stands on `err`: after a refusal all that is due, and a front of it where it could not be
-  -- written. Beside the texts nothing stands there but the lines for counts, where they are asked for.
+  -- written. Beside the texts nothing stands there but the lines for counts, where they are asked
+  -- for.
   abbrev pub WritesDue : Option Command → Status → Option (List ℕ) → Option (List ℕ) → Type 0
   WritesDue asked Refused old new = GetsAll (IsDueOf Course) old new
   WritesDue asked Usage old new = GetsAll (IsDueOf Course) old new

@@ -20,8 +20,8 @@ abbrev pub script_limit : Task → ℕ
 script_limit (Ask wish) = 1048576
 script_limit Execute = 268435456
 
--- a preference script is cut into tokens, these are parsed, and the trees are typed over the tables: the first fault of the
--- first part of this that has one
+-- a preference script is cut into tokens, these are parsed, and the trees are typed over the
+-- tables: the first fault of the first part of this that has one
 abbrev pub HasQueryFault : Tables → List ℕ → Spot → Type 0
 HasQueryFault tables text spot =
     IsFirstFault 64 text spot
@@ -32,7 +32,8 @@ HasQueryFault tables text spot =
 -- the queries that a preference script asks, with their names resolved
 abbrev pub AsksFor : Tables → List ℕ → List Block → Type 0
 AsksFor tables text blocks =
-    (tokens : List Token) × (trees : List QueryTree) × IsTokens 64 text tokens × IsScript tokens trees × AreTyped tables trees blocks
+    (tokens : List Token) × (trees : List QueryTree) × IsTokens 64 text tokens
+    × IsScript tokens trees × AreTyped tables trees blocks
 
 -- the first fault of a script that is not too long
 abbrev pub HasFault : Task → Tables → List ℕ → Spot → Type 0
@@ -52,7 +53,9 @@ pub record IsTooLong (task : Task) (text : List ℕ) (spot : Spot) : Type 0 wher
   pub place : spot ≡ record { code = 106; at = script_limit task }
 
 abbrev pub IsScriptFault : Task → Tables → List ℕ → Spot → Type 0
-IsScriptFault task tables text spot = IsTooLong task text spot ⊎ ((length text ≤ script_limit task) × HasFault task tables text spot)
+IsScriptFault task tables text spot =
+    IsTooLong task text spot ⊎ ((length text ≤ script_limit task) × HasFault task tables text spot)
 
 abbrev pub IsScriptWork : Task → Tables → List ℕ → Work → Type 0
-IsScriptWork task tables text work = (length text ≤ script_limit task) × IsWork task tables text work
+IsScriptWork task tables text work =
+    (length text ≤ script_limit task) × IsWork task tables text work

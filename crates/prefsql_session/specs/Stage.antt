@@ -1,4 +1,5 @@
--- A part of a run's work: what it comes to by the words, the files and the script. All of it is this project's own.
+-- A part of a run's work: what it comes to by the words, the files and the script. All of it is
+-- this project's own.
 use Rattle.std.specs.Prelude.{◌≡◌, ⊤, Bool, true, Option, None, Some}
 use Rattle.prefsql_session.specs.declared.fault.Fault.{Fault}
 

@@ -22,7 +22,8 @@ use Rattle.prefsql_session.specs.declared.work.Work.TheVariants.{Statements}
 
 -- Over every valid set of tables with the same names in the same order and equal columns, the SQL
 -- script of the statements reads as the queries that they are written as, and as nothing else; and
--- these answer what the statements answer: names, rows, how often each stands there, and their order.
+-- these answer what the statements answer: names, rows, how often each stands there, and their
+-- order.
 pub record SaysTheSame (tables : Tables) (blocks : List Block) : Type 0 where
   pub reads : (others : Tables) → IsOther tables others
       → ReadsAs others (script_of blocks) (written blocks)

@@ -16,8 +16,8 @@ texts_of = flat_map text_of
 abbrev pub max_bytes : ℕ
 max_bytes = 268435456
 
--- The queries are no more than a script may have, each is valid and fits the tables, and their texts,
--- one after the other, are UTF-8 and no longer than a script may be.
+-- The queries are no more than a script may have, each is valid and fits the tables, and their
+-- texts, one after the other, are UTF-8 and no longer than a script may be.
 pub record AreWritable (tables : Tables) (queries : List SqlQuery) : Type 0 where
   pub few : length queries ≤ max_statements
   pub valid : All IsValid queries

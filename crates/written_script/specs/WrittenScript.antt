@@ -1,5 +1,5 @@
--- A preference script as a script in SQL (after Kießling and Köstler 2002), and over which tables it
--- is read. The limits of a script are this project's own.
+-- A preference script as a script in SQL (after Kießling and Köstler 2002), and over which tables
+-- it is read. The limits of a script are this project's own.
 use Rattle.std.specs.Prelude.{ℕ, ◌≤◌, List, length, map, All, IsUtf8}
 use Rattle.prefsql_tables.specs.Table.{Tables}
 use Rattle.prefsql_tables.specs.Valid.{IsAlike, IsTableSet}
@@ -29,8 +29,8 @@ answers_of_blocks tables = map (blocks.answer_of tables)
 abbrev pub answers_of_queries : Tables → List SqlQuery → List Answer
 answers_of_queries tables = map (queries.answer_of tables)
 
--- The blocks are no more than a script may have, each is valid and fits the tables, and their script
--- in SQL is UTF-8 and no longer than one that is read.
+-- The blocks are no more than a script may have, each is valid and fits the tables, and their
+-- script in SQL is UTF-8 and no longer than one that is read.
 pub record AreWritten (tables : Tables) (blocks : List Block) : Type 0 where
   pub few : length blocks ≤ max_statements
   pub valid : All IsValidBlock blocks
