@@ -1,5 +1,10 @@
+pub mod Bounded
+pub mod Exact
+pub mod ExactParts
 pub mod Executed
+pub mod Fitted
 pub mod Gathered
+pub mod JudgedReads
 pub mod Named
 pub mod Nested
 pub mod Once
@@ -9,3 +14,4 @@ pub mod Searches
 pub mod Sums
 pub mod TableRows
 pub mod Truths
+pub mod WrappingReads

@@ -86,15 +86,15 @@ pub of_item : (item : SqlItem) → item_tables item ≡ scalar_tables item.value
 unfolding cond_tables scalar_tables source_tables from_tables item_tables when_tables term_tables tables_of
 of_item item = search (rules, the_lemmas)
 
-of_from : (from : SqlFrom) → from_tables from ≡ source_tables from.source
+pub of_from : (from : SqlFrom) → from_tables from ≡ source_tables from.source
 unfolding cond_tables scalar_tables source_tables from_tables item_tables when_tables term_tables tables_of
 of_from from = search (rules, the_lemmas)
 
-of_Table : (table : SqlTable) → source_tables (Table table) ≡ table ∷ []
+pub of_Table : (table : SqlTable) → source_tables (Table table) ≡ table ∷ []
 unfolding cond_tables scalar_tables source_tables from_tables item_tables when_tables term_tables tables_of
 of_Table table = search (rules, the_lemmas)
 
-of_Derived : (query : SqlQuery) → source_tables (Derived query) ≡ tables_of query
+pub of_Derived : (query : SqlQuery) → source_tables (Derived query) ≡ tables_of query
 unfolding cond_tables scalar_tables source_tables from_tables item_tables when_tables term_tables tables_of
 of_Derived query = search (rules, the_lemmas)
 
@@ -122,10 +122,10 @@ of_query query =
 -- ---- where the tables of the whole are there, so are those of each part
 
 module _ (P : SqlTable → Type 0) where
-  left : (xs ys : List SqlTable) → All P (xs ++ ys) → All P xs
+  pub left : (xs ys : List SqlTable) → All P (xs ++ ys) → All P xs
   left xs ys all = subst (All P) (take-append_seam xs ys) (All-take P (length xs) (xs ++ ys) all)
 
-  right : (xs ys : List SqlTable) → All P (xs ++ ys) → All P ys
+  pub right : (xs ys : List SqlTable) → All P (xs ++ ys) → All P ys
   right xs ys all = subst (All P) (drop-append_seam xs ys) (All-drop P (length xs) (xs ++ ys) all)
 
   -- of one part of a list

@@ -24,9 +24,10 @@ use Rattle.sql_tree.specs.declared.tree.SqlSource as source_of
 use Rattle.sql_tree.specs.declared.tree.SqlTable.{SqlTable}
 use Rattle.sql_tree.specs.declared.tree.SqlWhen.{SqlWhen}
 use Rattle.sql_tree.specs.declared.tree.SumTerm.{SumTerm}
-use Rattle.sql_tree.specs.Meaning as meaning
-use Rattle.sql_tree.specs.Meaning.{Scope, Scopes, truth_in, value_in, rows_in, from_rows, source_rows, item_value, term_value, is_kept, else_value, sum_of, or_else, first_some, signed}
-use Rattle.sql_tree.proofs.MeaningLemmas.{truth_in-And, truth_in-Or, truth_in-Not, truth_in-Compare, truth_in-Between, truth_in-OneOf, truth_in-IsNull, truth_in-Exists, value_in-Column, value_in-Number, value_in-Chars, value_in-Sum, value_in-Case, when_value_is, term_value_is, item_value_is, rows_in_is, from_rows_is, source_rows-Table, source_rows-Derived}
+use Rattle.sql_tree.specs.Meaning.{Scope, Scopes, is_kept, else_value, or_else, first_some}
+use Rattle.sql_exec.specs.Wrapping as meaning
+use Rattle.sql_exec.specs.Wrapping.{truth_in, value_in, rows_in, from_rows, source_rows, item_value, term_value, wrapped_sign, wrapped_sum}
+use Rattle.sql_exec.proofs.WrappingReads.{truth_in-And, truth_in-Or, truth_in-Not, truth_in-Compare, truth_in-Between, truth_in-OneOf, truth_in-IsNull, truth_in-Exists, value_in-Column, value_in-Number, value_in-Chars, value_in-Sum, value_in-Case, when_value_is, term_value_is, item_value_is, rows_in_is, from_rows_is, source_rows-Table, source_rows-Derived}
 use Rattle.sql_exec.specs.declared.ready.ReadyCond.{ReadyCond, And, Or, Not, Compare, Between, OneOf, IsNull, Exists}
 use Rattle.sql_exec.specs.declared.ready.ReadyScalar.{ReadyScalar, Column, Constant, Negative, Sum, Case}
 use Rattle.sql_exec.specs.declared.ready.ReadySearch.{ReadySearch, Test}
@@ -114,7 +115,7 @@ module _ (tables : Tables) where
 
   pub ready_Sum : (whole : SqlScalar) (sources : List SumTerm) (terms : List ReadyScalar) → whole ≡ scalar_of.Sum sources → map value terms ≡ map (term_value tables) sources → value (Sum terms) ≡ value_in tables whole
   ready_Sum whole sources terms is same = everywhere _ _ (λ scopes.
-      ready.value-Sum terms scopes ∙ ap sum_of (map_at value (term_value tables) terms sources scopes same)
+      ready.value-Sum terms scopes ∙ ap wrapped_sum (map_at value (term_value tables) terms sources scopes same)
       ∙ sym (value_in-Sum tables sources scopes) ∙ ap (λ s. value_in tables s scopes) (sym is))
 
   pub ready_Case : (whole : SqlScalar) (sources : List SqlWhen) (given : Option SqlScalar) (whens : List ReadyWhen) (last : ReadyScalar) → whole ≡ scalar_of.Case sources given
@@ -130,11 +131,11 @@ module _ (tables : Tables) where
 
   pub ready_minus : (source : SumTerm) (scalar : ReadyScalar) → source.minus ≡ true → value scalar ≡ value_in tables source.scalar → value (Negative scalar) ≡ term_value tables source
   ready_minus source scalar minus same = everywhere _ _ (λ scopes.
-      ready.value-Negative scalar scopes ∙ (λ j. signed true (same j scopes)) ∙ sym (ap (λ b. signed b (value_in tables source.scalar scopes)) minus) ∙ sym (term_value_is tables source scopes))
+      ready.value-Negative scalar scopes ∙ (λ j. wrapped_sign true (same j scopes)) ∙ sym (ap (λ b. wrapped_sign b (value_in tables source.scalar scopes)) minus) ∙ sym (term_value_is tables source scopes))
 
   pub ready_plus : (source : SumTerm) (scalar : ReadyScalar) → source.minus ≡ false → value scalar ≡ value_in tables source.scalar → value scalar ≡ term_value tables source
   ready_plus source scalar plus same = everywhere _ _ (λ scopes.
-      (λ j. same j scopes) ∙ sym (ap (λ b. signed b (value_in tables source.scalar scopes)) plus) ∙ sym (term_value_is tables source scopes))
+      (λ j. same j scopes) ∙ sym (ap (λ b. wrapped_sign b (value_in tables source.scalar scopes)) plus) ∙ sym (term_value_is tables source scopes))
 
   pub ready_none : keeps (And []) ≡ is_kept None
   ready_none = everywhere _ _ (λ scopes. ap is_true (ready.truth-And [] scopes))

@@ -8,13 +8,14 @@ use Rattle.prefsql_values.specs.Truth.{negated, negated_if, all_true, any_true, 
 use Rattle.prefsql_values.specs.Value.{comparison, between, one_of, is_null, truth_of}
 use Rattle.prefsql_tables.specs.declared.table.AnswerRow.{AnswerRow}
 use Rattle.sql_tree.specs.declared.tree.SqlPlace.{SqlPlace}
-use Rattle.sql_tree.specs.Meaning.{Scope, Scopes, place_value, signed, sum_of, or_else, first_some}
+use Rattle.sql_tree.specs.Meaning.{Scope, Scopes, place_value, or_else, first_some}
 use Rattle.sql_exec.specs.declared.ready.ReadyCond.{ReadyCond, And, Or, Not, Compare, Between, OneOf, IsNull, Exists}
 use Rattle.sql_exec.specs.declared.ready.ReadyCond.TheFolds.{the_lemmas}
 use Rattle.sql_exec.specs.declared.ready.ReadyScalar.{ReadyScalar, Column, Constant, Negative, Sum, Case}
 use Rattle.sql_exec.specs.declared.ready.ReadySearch.{ReadySearch, Each, Test}
 use Rattle.sql_exec.specs.declared.ready.ReadyWhen.{ReadyWhen}
 use Rattle.sql_exec.specs.Ready.{truth, value, kept, when_value}
+use Rattle.sql_exec.specs.Wrapping.{wrapped_sign, wrapped_sum}
 
 pub truth-And : (parts : List ReadyCond) (scopes : Scopes) → truth (And parts) scopes ≡ all_true (map (λ part. truth part scopes) parts)
 unfolding truth value kept when_value
@@ -56,11 +57,11 @@ pub value-Constant : (v : Value) (scopes : Scopes) → value (Constant v) scopes
 unfolding truth value kept when_value
 value-Constant v scopes = search (rules, the_lemmas)
 
-pub value-Negative : (scalar : ReadyScalar) (scopes : Scopes) → value (Negative scalar) scopes ≡ signed true (value scalar scopes)
+pub value-Negative : (scalar : ReadyScalar) (scopes : Scopes) → value (Negative scalar) scopes ≡ wrapped_sign true (value scalar scopes)
 unfolding truth value kept when_value
 value-Negative scalar scopes = search (rules, the_lemmas)
 
-pub value-Sum : (terms : List ReadyScalar) (scopes : Scopes) → value (Sum terms) scopes ≡ sum_of (map (λ term. value term scopes) terms)
+pub value-Sum : (terms : List ReadyScalar) (scopes : Scopes) → value (Sum terms) scopes ≡ wrapped_sum (map (λ term. value term scopes) terms)
 unfolding truth value kept when_value
 value-Sum terms scopes = search (rules, the_lemmas, map-map)
 

@@ -1,3 +1,4 @@
 pub mod Preparing
 pub mod Ready
 pub mod Seen
+pub mod Wrapping

@@ -1,4 +1,4 @@
--- The rows of a query, before DISTINCT.
+-- The rows of a query, before DISTINCT, with sums and signs in the range of a 128-bit number.
 use Rattle.std.specs.Prelude.{Bool, List, ◌∷◌, map}
 use Rattle.std.specs.List.{filter}
 use Rattle.std.specs.Option.{option_map}
@@ -6,7 +6,8 @@ use Rattle.prefsql_tables.specs.declared.table.AnswerRow.{AnswerRow}
 use Rattle.prefsql_tables.specs.Product.{product}
 use Rattle.prefsql_tables.specs.Table.{Tables}
 use Rattle.sql_tree.specs.declared.tree.SqlQuery.{SqlQuery, out-SqlQuery}
-use Rattle.sql_tree.specs.Meaning.{Scope, Scopes, from_rows, is_kept, item_value, truth_in}
+use Rattle.sql_tree.specs.Meaning.{Scope, Scopes, is_kept}
+use Rattle.sql_exec.specs.Wrapping.{from_rows, item_value, truth_in}
 
 -- the scopes that its WHERE keeps
 abbrev pub scopes_kept : Tables → SqlQuery → Scopes → List Scope

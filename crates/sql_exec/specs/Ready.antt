@@ -1,5 +1,6 @@
 -- What the parts of a query mean once each FROM item is the rows that it has. Which rows a part sees
--- is as for SQL queries: those of the query that it stands in, and of the queries round it.
+-- is as for SQL queries: those of the query that it stands in, and of the queries round it. Sums and
+-- signs are taken in the range of a 128-bit number.
 use Rattle.std.specs.Prelude.{Bool, true, if◌then◌else◌, Option, Some, None, List, [], ◌∷◌, ◌++◌, map}
 use Rattle.std.specs.List.{flat_map, list_any}
 use Rattle.prefsql_values.specs.declared.truth.Truth.{Truth}
@@ -7,12 +8,13 @@ use Rattle.prefsql_values.specs.declared.value.Value.{Value}
 use Rattle.prefsql_values.specs.Truth.{negated, negated_if, all_true, any_true, is_true}
 use Rattle.prefsql_values.specs.Value.{comparison, between, one_of, truth_of, is_null}
 use Rattle.prefsql_tables.specs.declared.table.AnswerRow.{AnswerRow}
-use Rattle.sql_tree.specs.Meaning.{Scope, Scopes, place_value, signed, sum_of, or_else, first_some}
+use Rattle.sql_tree.specs.Meaning.{Scope, Scopes, place_value, or_else, first_some}
 use Rattle.sql_exec.specs.declared.ready.ReadyCond.{ReadyCond, fold-ReadyCond}
 use Rattle.sql_exec.specs.declared.ready.ReadyCond.TheOpen.{ReadyCond-F, ReadyScalar-F, ReadySearch-F, ReadyWhen-F}
 use Rattle.sql_exec.specs.declared.ready.ReadyScalar.{ReadyScalar, fold-ReadyScalar}
 use Rattle.sql_exec.specs.declared.ready.ReadySearch.{ReadySearch, Each, fold-ReadySearch}
 use Rattle.sql_exec.specs.declared.ready.ReadyWhen.{ReadyWhen, fold-ReadyWhen}
+use Rattle.sql_exec.specs.Wrapping.{wrapped_sign, wrapped_sum}
 
 -- the scopes that a search keeps, each of which begins with these rows
 abbrev pub SearchMeaning : Type 0
@@ -36,8 +38,8 @@ cond_step (ReadyCond-F.Exists search) scopes = truth_of (list_any (λ _. true) (
 abbrev pub scalar_step : Level ReadyScalar-F → Scopes → Value
 scalar_step (ReadyScalar-F.Column place) scopes = place_value scopes place
 scalar_step (ReadyScalar-F.Constant value) scopes = value
-scalar_step (ReadyScalar-F.Negative scalar) scopes = signed true (scalar scopes)
-scalar_step (ReadyScalar-F.Sum terms) scopes = sum_of (map (λ term. term scopes) terms)
+scalar_step (ReadyScalar-F.Negative scalar) scopes = wrapped_sign true (scalar scopes)
+scalar_step (ReadyScalar-F.Sum terms) scopes = wrapped_sum (map (λ term. term scopes) terms)
 scalar_step (ReadyScalar-F.Case whens last) scopes =
     or_else (first_some (map (λ w. w scopes) whens)) (last scopes)
 

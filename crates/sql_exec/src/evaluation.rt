@@ -1,12 +1,15 @@
-//! The truth of a condition and the value of a scalar, for the rows that they see.
+//! The truth of a condition and the value of a scalar, for the rows that they see. Sums and signs are taken
+//! in the range of a 128-bit number. The values that a well-formed query speaks of are at most 10^36 by its
+//! static bounds, so that none of them wraps.
 ghost use Rattle.std.specs.Prelude.{◌≡◌, true, map, IfOk, OnOk, [], ◌∷◌, ◌++◌};
 ghost use Rattle.std.specs.List.{list_any};
 ghost use Rattle.std.specs.Option.{option_map};
 ghost use Rattle.prefsql_values.specs.Truth.{all_true, any_true, is_true};
 ghost use Rattle.prefsql_values.specs.Value.{one_of, value_of};
-ghost use Rattle.sql_tree.specs.Meaning.{added, first_some, signed, sum_of};
+ghost use Rattle.sql_tree.specs.Meaning.{added, first_some};
 ghost use Rattle.sql_exec.specs.Ready.{kept, truth, value, when_value};
 ghost use Rattle.sql_exec.specs.Seen.{found_value, outer_seen, rows_seen, scopes_seen};
+ghost use Rattle.sql_exec.specs.Wrapping.{wrapped, wrapped_sign, wrapped_sum};
 
 use crate::ready::{ReadyCond, ReadyScalar, ReadySearch, ReadyWhen};
 use crate::scopes::{Scope, cell_at, entered};
@@ -31,7 +34,10 @@ pub(crate) fn scalar_cell<'t>(
     match scalar {
         ReadyScalar::Column(place) => Ok(cell_at(*place, own, outer)),
         ReadyScalar::Constant(value) => Ok(value.cell()),
-        ReadyScalar::Negative(scalar) => negative(scalar_cell(alloc, scalar.get(), own, outer)?),
+        ReadyScalar::Negative(scalar) => {
+            let value = scalar_cell(alloc, scalar.get(), own, outer)?;
+            Ok(negative(value))
+        }
         ReadyScalar::Sum(terms) => sum(alloc, terms.as_slice(), own, outer),
         ReadyScalar::Case(whens, last) => {
             match first_true(alloc, whens.as_slice(), own, outer)? {
@@ -89,41 +95,35 @@ fn sum<'t>(
     own: &[&'t AnswerRow],
     outer: &[Scope<'t>],
 ) -> Result<Cell<'t>, Memory>
-    ensures { IfOk result (λ cell. value_of cell ≡ sum_of (map (λ term. value term (scopes_seen own.now outer.now)) terms.now)) }
+    ensures { IfOk result (λ cell. value_of cell ≡ wrapped_sum (map (λ term. value term (scopes_seen own.now outer.now)) terms.now)) }
 {
     let mut sum = Cell::Num(0);
     for term in terms {
         let term = scalar_cell(alloc, term, own, outer)?;
-        sum = added(sum, term)?;
+        sum = added(sum, term);
     }
     Ok(sum)
 }
 
-/// The sum of two values, which is NULL where one is NULL. A sum past the range of a number, which the
-/// static bounds of a well-formed query leave no room for, is answered like want of memory.
-fn added<'t>(a: Cell<'t>, b: Cell<'t>) -> Result<Cell<'t>, Memory>
-    ensures { IfOk result (λ cell. value_of cell ≡ added (value_of a.entry) (value_of b.entry)) }
+/// The sum of two values, which is NULL where one is NULL.
+#[tactic(auto, using(crate::proofs::Sums::wrapping))]
+fn added<'t>(a: Cell<'t>, b: Cell<'t>) -> Cell<'t>
+    ensures { value_of result ≡ wrapped (added (value_of a.entry) (value_of b.entry)) }
 {
     match (a, b) {
-        (Cell::Num(a), Cell::Num(b)) => match a.checked_add(b) {
-            Some(sum) => Ok(Cell::Num(sum)),
-            None => Err(Memory),
-        },
-        _ => Ok(Cell::Null),
+        (Cell::Num(a), Cell::Num(b)) => Cell::Num(a.wrapping_add(b)),
+        _ => Cell::Null,
     }
 }
 
-/// The number with the other sign, and NULL for NULL. The least number, which no value of a well-formed
-/// query is, is answered like want of memory.
-fn negative<'t>(cell: Cell<'t>) -> Result<Cell<'t>, Memory>
-    ensures { IfOk result (λ negative. value_of negative ≡ signed true (value_of cell.entry)) }
+/// The number with the other sign, and NULL for NULL.
+#[tactic(auto, using(crate::proofs::Sums::wrapping))]
+fn negative<'t>(cell: Cell<'t>) -> Cell<'t>
+    ensures { value_of result ≡ wrapped_sign true (value_of cell.entry) }
 {
     match cell {
-        Cell::Num(n) => match n.checked_neg() {
-            Some(negative) => Ok(Cell::Num(negative)),
-            None => Err(Memory),
-        },
-        _ => Ok(Cell::Null),
+        Cell::Num(n) => Cell::Num(n.wrapping_neg()),
+        _ => Cell::Null,
     }
 }
 

@@ -5,9 +5,10 @@ ghost use Rattle.std.specs.List.{flat_map};
 ghost use Rattle.std.specs.Option.{option_map};
 ghost use Rattle.prefsql_tables.specs.Table.{rows_of};
 ghost use Rattle.sql_tree.specs.Fits.{FitsTables, IsTableOf, cond_tables, from_tables, if_written, item_tables, scalar_tables, term_tables, when_tables};
-ghost use Rattle.sql_tree.specs.Meaning.{Scopes, else_value, from_rows, is_kept, item_value, rows_in, source_rows, term_value, truth_in, value_in, when_value as sql_when_value};
+ghost use Rattle.sql_tree.specs.Meaning.{Scopes, else_value, is_kept};
 ghost use Rattle.sql_exec.specs.Preparing.{rows_selected, scopes_kept};
 ghost use Rattle.sql_exec.specs.Ready.{keeps, kept, nested, row_of, truth, value, when_value};
+ghost use Rattle.sql_exec.specs.Wrapping.{from_rows, item_value, rows_in, source_rows, term_value, truth_in, value_in, when_value as sql_when_value};
 
 use crate::distinct::once;
 use crate::gathering::gather;

@@ -6,6 +6,7 @@ use Rattle.prefsql_values.specs.declared.value.Value.TheVariants.{Num}
 use Rattle.sql_tree.specs.Meaning.{added, first_some, sum_of}
 use Rattle.sql_exec.specs.Ready.{kept, truth, value, when_value}
 use Rattle.sql_exec.specs.Seen.{outer_seen, rows_seen, scopes_seen}
+use Rattle.sql_exec.specs.Wrapping.{wrapped, wrapped_sum}
 use Rattle.sql_exec.proofs.evaluation.+evaluation.Given as goal
 
 abbrev pub invariant-first_true-loop-when : goal.invariant-first_true-loop-when
@@ -16,7 +17,7 @@ invariant-first_true-loop-when l =
 abbrev pub invariant-sum-loop-term : goal.invariant-sum-loop-term
 invariant-sum-loop-term l =
     let values = map (λ term. value term (scopes_seen l.own l.outer)) in
-    (sum_of (values l.terms) ≡ added (value_of l.sum) (sum_of (values (drop l.term-index l.terms)))) × (value_of l.sum ≡ added (value_of l.sum) (Num (pos 0)))
+    (wrapped_sum (values l.terms) ≡ wrapped (added (value_of l.sum) (sum_of (values (drop l.term-index l.terms))))) × (value_of l.sum ≡ wrapped (added (value_of l.sum) (Num (pos 0))))
 
 abbrev pub invariant-all_hold-loop-part : goal.invariant-all_hold-loop-part
 invariant-all_hold-loop-part l =

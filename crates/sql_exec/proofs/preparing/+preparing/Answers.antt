@@ -14,8 +14,9 @@ use Rattle.prefsql_tables.specs.declared.table.AnswerRow.{AnswerRow}
 use Rattle.sql_tree.specs.declared.tree.SqlCond.{SqlCond}
 use Rattle.sql_tree.specs.declared.tree.SqlQuery.{SqlQuery}
 use Rattle.sql_tree.specs.declared.tree.SqlScalar.{SqlScalar}
-use Rattle.sql_tree.specs.Meaning.{Scopes, else_value, from_rows, is_kept, item_value, rows_in, term_value, truth_in, value_in}
-use Rattle.sql_tree.specs.Meaning as meaning
+use Rattle.sql_tree.specs.Meaning.{Scopes, else_value, is_kept}
+use Rattle.sql_exec.specs.Wrapping.{from_rows, item_value, rows_in, term_value, truth_in, value_in}
+use Rattle.sql_exec.specs.Wrapping as meaning
 use Rattle.sql_exec.specs.declared.ready.ReadyCond.{ReadyCond, And}
 use Rattle.sql_exec.specs.declared.ready.ReadyScalar.{ReadyScalar}
 use Rattle.sql_exec.specs.declared.ready.ReadySearch.{ReadySearch}

@@ -1,6 +1,6 @@
 use Rattle.std.proofs.Common.{◌≡◌, map, take}
-use Rattle.sql_tree.specs.Meaning.{from_rows, item_value, term_value, truth_in, value_in}
-use Rattle.sql_tree.specs.Meaning as meaning
+use Rattle.sql_exec.specs.Wrapping.{from_rows, item_value, term_value, truth_in, value_in}
+use Rattle.sql_exec.specs.Wrapping as meaning
 use Rattle.sql_exec.specs.Ready.{truth, value, when_value}
 use Rattle.sql_exec.proofs.preparing.+preparing.Given as goal
 
