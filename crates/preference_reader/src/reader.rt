@@ -131,7 +131,7 @@ impl PreferenceReader {
         self.second_set(tokens, first, column)
     }
 
-    #[tactic(auto, unfolding(query_grammar::specs::ReadPreferences::good_base, query_grammar::specs::ReadPreferences::otherwise), using(token_forms::proofs::Values::value_twice))]
+    #[tactic(auto, using(crate::proofs::Parts::good_by_parts))]
     fn good(self, tokens: &mut Cursor<'_>) -> Result<BaseForm, Stop>
         ensures { Reads (outcome self.depth preferences.good_base tokens.old) result tokens.new }
     {
@@ -274,7 +274,7 @@ impl PreferenceReader {
         Ok(edges)
     }
 
-    #[tactic(auto, unfolding(query_grammar::specs::ReadPreferences::column_base, query_grammar::specs::ReadPreferences::graph_form), using(query_grammar::proofs::Plain::plain_column))]
+    #[tactic(auto, using(crate::proofs::Parts::column_base_by_parts, query_grammar::proofs::Plain::plain_column))]
     fn column_base(self, tokens: &mut Cursor<'_>) -> Result<BaseTree, Stop>
         ensures { Reads (outcome self.depth preferences.column_base tokens.old) result tokens.new }
     {
