@@ -12,9 +12,7 @@ ghost use Rattle.token_forms.specs.Reads.{Reads};
 
 use prefsql_lexer::{Keyword, Symbol};
 use prefsql_values::{List, Memory};
-use query_tree::{
-    BaseForm, BaseTree, EdgeTree, LiteralTree, NameTree, PrefTree, SetTree,
-};
+use query_tree::{BaseForm, BaseTree, EdgeTree, LiteralTree, NameTree, PrefTree, SetTree};
 use std::alloc::Global;
 use token_forms::{Cursor, Stop, both, pushed};
 
