@@ -6,12 +6,13 @@ ghost use Rattle.query_grammar.specs.Rules.{preference_rule};
 ghost use Rattle.token_forms.specs.Forms as forms;
 ghost use Rattle.query_grammar.specs.ReadPreferences as preferences;
 ghost use Rattle.query_grammar.specs.Sets as sets;
+ghost use Rattle.preference_reader.specs.Sides as sides;
 ghost use Rattle.query_grammar.specs.Outcome.{nested, outcome};
 ghost use Rattle.token_forms.specs.Reads.{Reads};
 
 use prefsql_lexer::{Keyword, Symbol};
 use prefsql_values::{List, Memory};
-use query_tree::{BaseForm, BaseTree, EdgeTree, LiteralTree, PrefTree, SetTree};
+use query_tree::{BaseForm, BaseTree, EdgeTree, LiteralTree, NameTree, PrefTree, SetTree};
 use std::alloc::Global;
 use token_forms::{Cursor, Stop, both, pushed};
 
@@ -100,12 +101,16 @@ impl PreferenceReader {
         self.set(tokens)
     }
 
-    #[tactic(auto, unfolding(query_grammar::specs::ReadPreferences::otherwise, query_grammar::specs::ReadPreferences::good_set, token_forms::specs::Columns::column), using(grammar_forms::proofs::Sets::begins_more, token_forms::proofs::Values::value_twice))]
-    fn otherwise(self, tokens: &mut Cursor<'_>, first: SetTree) -> Result<BaseForm, Stop>
-        ensures { Reads (with_value (λ h. h first) (outcome self.depth preferences.otherwise tokens.old)) result tokens.new }
+    /// The set behind the column after ELSE, and what it makes with the set before ELSE.
+    #[tactic(auto, using(crate::proofs::Sides::second_by_sides, token_forms::proofs::Values::value_twice))]
+    fn second_set(
+        self,
+        tokens: &mut Cursor<'_>,
+        first: SetTree,
+        column: NameTree,
+    ) -> Result<BaseForm, Stop>
+        ensures { Reads (with_value (λ h. h column first) (outcome self.depth sides.second_set tokens.old)) result tokens.new }
     {
-        let (first, _) = both(first, tokens.word(Keyword::Else))?;
-        let (first, column) = both(first, tokens.column())?;
         if tokens.at_symbol(Symbol::Equal) || tokens.at_word(Keyword::In) {
             let ((first, column), second) = both((first, column), self.good_set(tokens))?;
             Ok(BaseForm::PosPos(first, column, second))
@@ -115,7 +120,16 @@ impl PreferenceReader {
         }
     }
 
-    #[tactic(auto, unfolding(query_grammar::specs::ReadPreferences::good_base, query_grammar::specs::ReadPreferences::otherwise), using(token_forms::proofs::Values::value_twice))]
+    #[tactic(auto, unfolding(query_grammar::specs::ReadPreferences::otherwise, token_forms::specs::Columns::column))]
+    fn otherwise(self, tokens: &mut Cursor<'_>, first: SetTree) -> Result<BaseForm, Stop>
+        ensures { Reads (with_value (λ h. h first) (outcome self.depth preferences.otherwise tokens.old)) result tokens.new }
+    {
+        let (first, _) = both(first, tokens.word(Keyword::Else))?;
+        let (first, column) = both(first, tokens.column())?;
+        self.second_set(tokens, first, column)
+    }
+
+    #[tactic(auto, using(crate::proofs::Parts::good_by_parts))]
     fn good(self, tokens: &mut Cursor<'_>) -> Result<BaseForm, Stop>
         ensures { Reads (outcome self.depth preferences.good_base tokens.old) result tokens.new }
     {
@@ -210,16 +224,11 @@ impl PreferenceReader {
         Ok(layers)
     }
 
-    #[tactic(auto, unfolding(query_grammar::specs::ReadPreferences::other_form, query_grammar::specs::ReadPreferences::good_base, query_grammar::specs::ReadPreferences::good_set, query_grammar::specs::ReadPreferences::bad_set, query_grammar::specs::ReadPreferences::between_base), using(query_grammar::proofs::Plain::plain_literal, grammar_forms::proofs::Sets::begins_more))]
-    fn other_form(self, tokens: &mut Cursor<'_>) -> Result<BaseForm, Stop>
-        ensures { Reads (outcome self.depth preferences.other_form tokens.old) result tokens.new }
+    /// A form with no set of values.
+    #[tactic(auto, unfolding(crate::specs::Sides::no_set_form, query_grammar::specs::ReadPreferences::between_base), using(query_grammar::proofs::Plain::plain_literal))]
+    fn no_set_form(self, tokens: &mut Cursor<'_>) -> Result<BaseForm, Stop>
+        ensures { Reads (outcome self.depth sides.no_set_form tokens.old) result tokens.new }
     {
-        if tokens.at_symbol(Symbol::Equal) || tokens.at_word(Keyword::In) {
-            return self.good(tokens);
-        }
-        if tokens.at_symbol(Symbol::NotEqual) || tokens.at_word(Keyword::Not) {
-            return Ok(BaseForm::Neg(self.bad_set(tokens)?));
-        }
         if tokens.eat_word(Keyword::Around) {
             return Ok(BaseForm::Around(tokens.literal()?));
         }
@@ -228,6 +237,27 @@ impl PreferenceReader {
         }
         tokens.word(Keyword::Layered)?;
         self.layers_in_parens(tokens)
+    }
+
+    /// A form with no set of good values.
+    #[tactic(auto, using(crate::proofs::Sides::no_good_by_sides))]
+    fn no_good_form(self, tokens: &mut Cursor<'_>) -> Result<BaseForm, Stop>
+        ensures { Reads (outcome self.depth sides.no_good_form tokens.old) result tokens.new }
+    {
+        if tokens.at_symbol(Symbol::NotEqual) || tokens.at_word(Keyword::Not) {
+            return Ok(BaseForm::Neg(self.bad_set(tokens)?));
+        }
+        self.no_set_form(tokens)
+    }
+
+    #[tactic(auto, using(crate::proofs::Sides::other_by_sides))]
+    fn other_form(self, tokens: &mut Cursor<'_>) -> Result<BaseForm, Stop>
+        ensures { Reads (outcome self.depth preferences.other_form tokens.old) result tokens.new }
+    {
+        if tokens.at_symbol(Symbol::Equal) || tokens.at_word(Keyword::In) {
+            return self.good(tokens);
+        }
+        self.no_good_form(tokens)
     }
 
     #[tactic(auto, unfolding(query_grammar::specs::ReadPreferences::graph_form))]
@@ -242,7 +272,7 @@ impl PreferenceReader {
         Ok(edges)
     }
 
-    #[tactic(auto, unfolding(query_grammar::specs::ReadPreferences::column_base, query_grammar::specs::ReadPreferences::graph_form), using(query_grammar::proofs::Plain::plain_column))]
+    #[tactic(auto, using(crate::proofs::Parts::column_base_by_parts, query_grammar::proofs::Plain::plain_column))]
     fn column_base(self, tokens: &mut Cursor<'_>) -> Result<BaseTree, Stop>
         ensures { Reads (outcome self.depth preferences.column_base tokens.old) result tokens.new }
     {
