@@ -1,3 +1,4 @@
 pub mod Preparing
 pub mod Ready
+pub mod RowKeys
 pub mod Seen
