@@ -1,14 +1,16 @@
 -- Each row once, at its first place.
-use Rattle.std.proofs.Common.{◌≡◌, Bool, true, false, not, ◌&&◌, ◌||◌, cond, List, [], ◌∷◌, ◌++◌, refl, sym, ap, ◌∙◌, inl, inr, append-nil, append_assoc}
+use Rattle.std.proofs.Common.{◌≡◌, Bool, true, false, not, ◌&&◌, ◌||◌, cond, List, [], ◌∷◌, ◌++◌, map, map-id, refl, sym, ap, ◌∙◌, inl, inr, append-nil, append_assoc}
+use Rattle.std.specs.Cmp.{decided}
 use Rattle.std.specs.List.{filter, list_any}
 use Rattle.std.proofs.lemmas.Bool.{cases_Bool}
 use Rattle.std.proofs.lemmas.List.Folds.{list_any-append}
+use Rattle.indexmap.specs.IndexSet.{insert_all}
 use Rattle.prefsql_tables.specs.declared.table.AnswerRow.{AnswerRow}
 use Rattle.prefsql_tables.specs.Distinct.{is_same_row, each_once}
 use Rattle.prefsql_tables.proofs.DistinctLemmas.{is_same_row-Decides}
 
 abbrev pub is_in : List AnswerRow → AnswerRow → Bool
-is_in kept row = list_any (λ other. is_same_row other row) kept
+is_in kept row = list_any (is_same_row row) kept
 
 -- one row more, if it is not there
 abbrev pub add_once : List AnswerRow → AnswerRow → List AnswerRow
@@ -53,7 +55,9 @@ new_pair false false = refl
 -- a row that is not there yet
 new_row : (kept : List AnswerRow) (row other : AnswerRow) → (is_other row other && is_new kept other) ≡ is_new (kept ++ row ∷ []) other
 new_row kept row other =
-    new_pair (is_in kept other) (is_same_row row other) ∙ ap not (sym (list_any-append (λ r. is_same_row r other) kept (row ∷ [])))
+    ap (λ b. not b && is_new kept other) ((decided is_same_row is_same_row-Decides).symm row other)
+    ∙ new_pair (is_in kept other) (is_same_row other row)
+    ∙ ap not (sym (list_any-append (is_same_row other) kept (row ∷ [])))
 
 adding_is : (kept rows : List AnswerRow) → adding kept rows ≡ kept ++ filter (is_new kept) (each_once rows)
 adding_is kept [] = sym (append-nil kept)
@@ -79,18 +83,14 @@ all_new [] = refl
 all_new (row ∷ rows) = ap (λ rest. row ∷ rest) (all_new rows)
 
 -- added to none, they are there once each
-pub adding_all : (rows : List AnswerRow) → adding [] rows ≡ each_once rows
+adding_all : (rows : List AnswerRow) → adding [] rows ≡ each_once rows
 adding_all rows = adding_is [] rows ∙ all_new (each_once rows)
 
--- a row that is not there yet is added
-pub step_new : (kept seen pushed rest old all : List AnswerRow) (row : AnswerRow) → adding kept old ≡ all → old ≡ row ∷ rest → seen ≡ kept → is_in seen row ≡ false → pushed ≡ kept ++ row ∷ []
-    → adding pushed rest ≡ all
-step_new kept seen pushed rest old all row before is same gone after =
-    ap (λ (now : List AnswerRow). adding now rest) (after ∙ sym (ap (λ (b : Bool). cond b kept (kept ++ row ∷ [])) (sym (ap (λ (rows : List AnswerRow). is_in rows row) same) ∙ gone)))
-    ∙ sym (ap (λ (rows : List AnswerRow). adding kept rows) is) ∙ before
+folded : (kept rows : List AnswerRow) → insert_all is_same_row kept rows ≡ adding kept rows
+folded kept [] = refl
+folded kept (row ∷ rows) = folded (add_once kept row) rows
 
--- and one that is there is not
-pub step_old : (kept seen rest old all : List AnswerRow) (row : AnswerRow) → adding kept old ≡ all → old ≡ row ∷ rest → seen ≡ kept → is_in seen row ≡ true → adding kept rest ≡ all
-step_old kept seen rest old all row before is same there =
-    ap (λ (now : List AnswerRow). adding now rest) (sym (ap (λ (b : Bool). cond b kept (kept ++ row ∷ [])) (sym (ap (λ (rows : List AnswerRow). is_in rows row) same) ∙ there)))
-    ∙ sym (ap (λ (rows : List AnswerRow). adding kept rows) is) ∙ before
+-- put into an empty set and taken out again, they are there once each
+pub once_taken : (rows keys kept taken : List AnswerRow) → keys ≡ map (λ row. row) rows → kept ≡ insert_all is_same_row [] keys → taken ≡ map (λ row. row) kept → taken ≡ each_once rows
+once_taken rows keys kept taken as_keys are_kept are_taken =
+    are_taken ∙ map-id kept ∙ are_kept ∙ ap (insert_all is_same_row []) (as_keys ∙ map-id rows) ∙ folded [] rows ∙ adding_all rows

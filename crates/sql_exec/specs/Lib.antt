@@ -1,4 +1,5 @@
 pub mod Preparing
 pub mod Ready
+pub mod RowKeys
 pub mod Seen
 pub mod Wrapping

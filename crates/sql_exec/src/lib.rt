@@ -8,6 +8,7 @@ mod gathering;
 mod laid_out;
 mod preparing;
 mod ready;
+mod row_key;
 mod scopes;
 
 pub use executing::execute;

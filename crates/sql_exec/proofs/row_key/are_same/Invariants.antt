@@ -1,7 +1,7 @@
 use Rattle.std.proofs.Common.{◌≡◌, drop}
 use Rattle.std.specs.Cmp.Lexicographic.{pointwise}
 use Rattle.prefsql_values.specs.Value.{value_eq}
-use Rattle.sql_exec.proofs.distinct.are_same.Given as goal
+use Rattle.sql_exec.proofs.row_key.are_same.Given as goal
 
 abbrev pub invariant-loop-place : goal.invariant-loop-place
 invariant-loop-place l =
