@@ -9,17 +9,12 @@ use Rattle.prefsql_tables.specs.declared.table.AnswerRow.{AnswerRow}
 use Rattle.prefsql_tables.specs.Distinct.{is_same_row, each_once}
 use Rattle.prefsql_tables.proofs.DistinctLemmas.{is_same_row-Decides}
 
-abbrev pub is_in : List AnswerRow → AnswerRow → Bool
+abbrev is_in : List AnswerRow → AnswerRow → Bool
 is_in kept row = list_any (is_same_row row) kept
 
--- one row more, if it is not there
-abbrev pub add_once : List AnswerRow → AnswerRow → List AnswerRow
-add_once kept row = cond (is_in kept row) kept (kept ++ row ∷ [])
-
--- the rows with others added one after the other
-abbrev pub adding : List AnswerRow → List AnswerRow → List AnswerRow
-adding kept [] = kept
-adding kept (row ∷ rows) = adding (add_once kept row) rows
+-- the rows with others added one after the other, each if it is not there
+abbrev adding : List AnswerRow → List AnswerRow → List AnswerRow
+adding = insert_all is_same_row
 
 abbrev is_other : AnswerRow → AnswerRow → Bool
 is_other row other = not (is_same_row row other)
@@ -86,11 +81,7 @@ all_new (row ∷ rows) = ap (λ rest. row ∷ rest) (all_new rows)
 adding_all : (rows : List AnswerRow) → adding [] rows ≡ each_once rows
 adding_all rows = adding_is [] rows ∙ all_new (each_once rows)
 
-folded : (kept rows : List AnswerRow) → insert_all is_same_row kept rows ≡ adding kept rows
-folded kept [] = refl
-folded kept (row ∷ rows) = folded (add_once kept row) rows
-
 -- put into an empty set and taken out again, they are there once each
-pub once_taken : (rows keys kept taken : List AnswerRow) → keys ≡ map (λ row. row) rows → kept ≡ insert_all is_same_row [] keys → taken ≡ map (λ row. row) kept → taken ≡ each_once rows
+pub once_taken : (rows keys kept taken : List AnswerRow) → keys ≡ map (λ row. row) rows → kept ≡ adding [] keys → taken ≡ map (λ row. row) kept → taken ≡ each_once rows
 once_taken rows keys kept taken as_keys are_kept are_taken =
-    are_taken ∙ map-id kept ∙ are_kept ∙ ap (insert_all is_same_row []) (as_keys ∙ map-id rows) ∙ folded [] rows ∙ adding_all rows
+    are_taken ∙ map-id kept ∙ are_kept ∙ ap (adding []) (as_keys ∙ map-id rows) ∙ adding_all rows
