@@ -1,14 +1,14 @@
 -- Values within the static bounds of their columns, and sums of them.
-use Rattle.std.proofs.Common.{◌≡◌, ℕ, ℤ, zero, suc, pos, negsuc, ◌+◌, ◌-◌, ◌<◌, ◌≤◌, ◌^◌, max, Bool, true, false, Option, Some, None, List, [], ◌∷◌, ◌++◌, map, cond, All, refl, sym, ap, subst, arith}
-use Rattle.std.specs.Prelude.{slice_index_or, unsigned_abs, neg_ℤ, ◌+ℤ◌}
+use Rattle.std.proofs.Common.{◌≡◌, ℕ, ℤ, zero, suc, pos, negsuc, ◌+◌, ◌-◌, ◌<◌, ◌≤◌, ◌^◌, max, Bool, true, false, Option, Some, None, List, [], ◌∷◌, ◌++◌, cond, refl, sym, ap, subst, arith}
+use Rattle.std.specs.Prelude.{unsigned_abs, neg_ℤ, ◌+ℤ◌}
 use Rattle.std.specs.Int.{w128}
 use Rattle.std.proofs.lemmas.Int.{ints, fits_signed_from_abs, int_wrap_fits}
 use Rattle.prefsql_values.specs.declared.value.Domain.{Domain}
-use Rattle.prefsql_values.specs.declared.value.Domain.TheVariants.{Integer, Chars}
+use Rattle.prefsql_values.specs.declared.value.Domain.TheVariants.{Integer}
 use Rattle.prefsql_values.specs.declared.value.Value.{Value}
 use Rattle.prefsql_values.specs.declared.value.Value.TheVariants.{Num, Str, Null}
 use Rattle.prefsql_tables.specs.declared.schema.Column.{Column}
-use Rattle.prefsql_tables.specs.Valid.{IsCell, IsRow}
+use Rattle.prefsql_tables.specs.Valid.{IsCell}
 use Rattle.sql_tree.specs.Meaning.{added, first_some, or_else, signed}
 use Rattle.sql_tree.specs.Shown.{Shape, domain_shape, greatest_bound}
 use Rattle.sql_exec.specs.Wrapping.{wrapped, wrapped_sign}

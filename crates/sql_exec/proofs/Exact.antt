@@ -1,6 +1,6 @@
 -- The rows of a well-formed query are the same with sums and signs in the range of a 128-bit number as without, over tables that it
 -- fits.
-use Rattle.std.proofs.Common.{◌≡◌, ℕ, zero, suc, Bool, true, false, not, ◌&&◌, Option, Some, None, List, [], ◌∷◌, ◌++◌, map, cond, length, filter, leb, All, refl, sym, ap, ◌∙◌, subst}
+use Rattle.std.proofs.Common.{◌≡◌, ℕ, zero, suc, Bool, true, false, not, ◌&&◌, Option, Some, None, List, [], ◌∷◌, map, cond, length, filter, leb, All, refl, sym, ap, ◌∙◌, subst}
 use Rattle.std.specs.Prelude.{nat_lt, slice_index_or}
 use Rattle.std.specs.List.{flat_map, list_all}
 use Rattle.std.specs.Option.{option_map}
@@ -25,10 +25,10 @@ use Rattle.sql_tree.specs.declared.tree.SqlTable.{SqlTable}
 use Rattle.sql_tree.specs.declared.tree.SqlSource.{SqlSource, Table, Derived, roll-SqlSource, map-SqlSource}
 use Rattle.sql_tree.specs.declared.tree.SqlFrom.{SqlFrom, roll-SqlFrom}
 use Rattle.sql_tree.specs.declared.tree.SqlItem.{SqlItem, roll-SqlItem}
-use Rattle.sql_tree.specs.declared.tree.SqlQuery.{SqlQuery, out-SqlQuery, out-roll-SqlQuery, roll-SqlQuery, map-SqlQuery}
+use Rattle.sql_tree.specs.declared.tree.SqlQuery.{SqlQuery, out-roll-SqlQuery, roll-SqlQuery, map-SqlQuery}
 use Rattle.sql_tree.specs.declared.tree.SqlWhen.{SqlWhen, roll-SqlWhen}
 use Rattle.sql_tree.specs.declared.tree.SumTerm.{SumTerm, roll-SumTerm}
-use Rattle.sql_tree.specs.Fits.{FitsTables, IsTableOf, cond_tables, from_tables, if_written, item_tables, scalar_tables, source_tables, tables_of}
+use Rattle.sql_tree.specs.Fits.{FitsTables, IsTableOf, cond_tables, from_tables, if_written, item_tables, tables_of}
 use Rattle.sql_tree.specs.Meaning.{Scope, Scopes, from_rows, is_kept, rows_in, source_rows, truth_in, value_in}
 use Rattle.sql_tree.specs.Select.{select}
 use Rattle.sql_tree.specs.Shown.{ShownItem, View}

@@ -1,50 +1,40 @@
 -- No number of a well-formed query leaves the range of a 128-bit number: with sums and signs in that range each part means what it
 -- means without, over tables that the query fits.
-use Rattle.std.proofs.Common.{◌≡◌, ℕ, ℤ, zero, suc, pos, ◌+◌, ◌-◌, ◌<◌, ◌≤◌, ◌^◌, Bool, true, false, not, ◌&&◌, Option, Some, None, List, [], ◌∷◌, ◌++◌, map, cond, length, filter, leb, All, refl, sym, ap, ◌∙◌, subst, arith}
-use Rattle.std.specs.Prelude.{nat_lt, slice_index_or, unsigned_abs}
+use Rattle.std.proofs.Common.{◌≡◌, ℕ, ℤ, ◌+◌, ◌-◌, ◌≤◌, ◌^◌, Bool, true, false, not, ◌&&◌, Option, Some, None, List, [], ◌∷◌, ◌++◌, map, cond, length, leb, All, refl, sym, ap, ◌∙◌, subst, arith}
+use Rattle.std.specs.Prelude.{unsigned_abs}
 use Rattle.std.specs.List.{flat_map, list_all, list_any}
 use Rattle.std.specs.Option.{option_map}
 use Rattle.std.proofs.lemmas.Bool.{and_parts, leb-true, ltb-true}
-use Rattle.std.proofs.lemmas.List.Elements.{All-nil, All-cons, All-head, All-map, All-filter, All-weaker}
 use Rattle.prefsql_values.specs.declared.value.CompareOp.{CompareOp}
 use Rattle.prefsql_values.specs.declared.value.Domain.{Domain}
 use Rattle.prefsql_values.specs.declared.value.Domain.TheVariants.{Integer}
 use Rattle.prefsql_values.specs.declared.value.Value.{Value}
-use Rattle.prefsql_values.specs.declared.value.Value.TheVariants.{Null}
 use Rattle.prefsql_values.specs.Truth.{all_true, any_true, is_true, negated, negated_if}
 use Rattle.prefsql_values.specs.Value.{between, comparison, is_null, one_of, truth_of}
-use Rattle.prefsql_tables.specs.declared.place.SortKey.{SortKey}
-use Rattle.prefsql_tables.specs.declared.table.AnswerRow.{AnswerRow}
-use Rattle.prefsql_tables.specs.Distinct.{each_once}
-use Rattle.prefsql_tables.specs.Product.{product}
 use Rattle.prefsql_tables.specs.Table.{Tables}
 use Rattle.prefsql_tables.specs.Valid.{IsTableSet}
-use Rattle.prefsql_tables.proofs.ListLemmas.{filter_on, map_on}
-use Rattle.sql_tree.specs.declared.tree.SqlCond.{SqlCond, And, Or, Not, Compare, Between, OneOf, IsNull, Exists, roll-SqlCond, map-SqlCond}
-use Rattle.sql_tree.specs.declared.tree.SqlCond.TheOpen.{SqlCond-F, SqlScalar-F, SqlSource-F, SqlQuery-F}
-use Rattle.sql_tree.specs.declared.tree.SqlCond.TheFolds.{ind-SqlQuery}
-use Rattle.sql_tree.specs.declared.tree.SqlScalar.{SqlScalar, Column, Number, Chars, Sum, Case, roll-SqlScalar, map-SqlScalar}
+use Rattle.sql_tree.specs.declared.tree.SqlCond.{SqlCond, And, Or, Not, Compare, Between, OneOf, IsNull, Exists}
+use Rattle.sql_tree.specs.declared.tree.SqlScalar.{SqlScalar, Column, Number, Chars, Sum, Case}
 use Rattle.sql_tree.specs.declared.tree.SqlPlace.{SqlPlace}
 use Rattle.sql_tree.specs.declared.tree.SqlTable.{SqlTable}
-use Rattle.sql_tree.specs.declared.tree.SqlSource.{SqlSource, Table, Derived, roll-SqlSource, map-SqlSource}
-use Rattle.sql_tree.specs.declared.tree.SqlFrom.{SqlFrom, roll-SqlFrom}
-use Rattle.sql_tree.specs.declared.tree.SqlItem.{SqlItem, roll-SqlItem}
-use Rattle.sql_tree.specs.declared.tree.SqlQuery.{SqlQuery, out-SqlQuery, out-roll-SqlQuery, roll-SqlQuery, map-SqlQuery}
-use Rattle.sql_tree.specs.declared.tree.SqlWhen.{SqlWhen, roll-SqlWhen}
-use Rattle.sql_tree.specs.declared.tree.SumTerm.{SumTerm, roll-SumTerm}
-use Rattle.sql_tree.specs.Fits.{IsTableOf, cond_tables, from_tables, if_written, item_tables, scalar_tables, source_tables, tables_of, term_tables, when_tables}
-use Rattle.sql_tree.specs.Meaning.{Scope, Scopes, else_value, first_some, from_rows, is_kept, or_else, rows_in, source_rows, sum_of, term_value, truth_in, value_in, when_value}
-use Rattle.sql_tree.specs.Select.{select}
-use Rattle.sql_tree.specs.Shown.{Shape, ShownItem, View, choice_shape, greatest_bound, sum_bound}
-use Rattle.sql_tree.specs.WellFormed.{JudgedFrom, JudgedItem, JudgedQuery, JudgedScalar, JudgedSource, JudgedTerm, JudgedWhen, agrees, all_differ, domain_eq, filter_well, first_is_plus, is_bounded, is_name, is_otherwise, is_short, is_term, is_when, judged_at, judged_cond, judged_query, judged_scalar, judged_sum, own_view, query_step, result_shapes, term_shapes}
-use Rattle.sql_tree.proofs.MeaningLemmas.{truth_in-And, truth_in-Or, truth_in-Not, truth_in-Compare, truth_in-Between, truth_in-OneOf, truth_in-IsNull, truth_in-Exists, value_in-Column, value_in-Number, value_in-Chars, value_in-Sum, value_in-Case, when_value_is, term_value_is, from_rows_is, source_rows-Table, source_rows-Derived, rows_in-select}
+use Rattle.sql_tree.specs.declared.tree.SqlSource.{SqlSource}
+use Rattle.sql_tree.specs.declared.tree.SqlFrom.{SqlFrom}
+use Rattle.sql_tree.specs.declared.tree.SqlItem.{SqlItem}
+use Rattle.sql_tree.specs.declared.tree.SqlQuery.{SqlQuery}
+use Rattle.sql_tree.specs.declared.tree.SqlWhen.{SqlWhen}
+use Rattle.sql_tree.specs.declared.tree.SumTerm.{SumTerm}
+use Rattle.sql_tree.specs.Fits.{IsTableOf, cond_tables, if_written, scalar_tables, source_tables, tables_of, term_tables, when_tables}
+use Rattle.sql_tree.specs.Meaning.{Scopes, else_value, first_some, or_else, rows_in, source_rows, sum_of, term_value, truth_in, value_in, when_value}
+use Rattle.sql_tree.specs.Shown.{Shape, View, choice_shape, greatest_bound, sum_bound}
+use Rattle.sql_tree.specs.WellFormed.{JudgedScalar, JudgedTerm, JudgedWhen, agrees, domain_eq, first_is_plus, is_bounded, is_otherwise, is_short, is_term, is_when, judged_at, judged_cond, judged_query, judged_scalar, judged_sum, result_shapes, term_shapes}
+use Rattle.sql_tree.proofs.MeaningLemmas.{truth_in-And, truth_in-Or, truth_in-Not, truth_in-Compare, truth_in-Between, truth_in-OneOf, truth_in-IsNull, truth_in-Exists, value_in-Column, value_in-Number, value_in-Chars, value_in-Sum, value_in-Case, when_value_is, term_value_is}
 use Rattle.sql_exec.specs.Wrapping as wrapping
 use Rattle.sql_exec.specs.Wrapping.{wrapped_sign, wrapped_sum}
 use Rattle.sql_exec.proofs.WrappingReads as reads
-use Rattle.sql_exec.proofs.JudgedReads.{judged_from, judged_item, judged_source, judged_term, judged_when, judged-And, judged-Or, judged-Not, judged-Compare, judged-Between, judged-OneOf, judged-IsNull, judged-Exists, judged-Column, judged-Number, judged-Chars, judged-Sum, judged-Case, judged_when_is, judged_term_is, judged_item_is, judged_from_is, judged_source-Table, judged_source-Derived, judged-select, layer}
+use Rattle.sql_exec.proofs.JudgedReads.{judged_source, judged_term, judged_when, judged-And, judged-Or, judged-Not, judged-Compare, judged-Between, judged-OneOf, judged-IsNull, judged-Exists, judged-Column, judged-Number, judged-Chars, judged-Sum, judged-Case, judged_when_is, judged_term_is}
 use Rattle.sql_exec.proofs.Named as named
 use Rattle.sql_exec.proofs.Bounded.{IsSomeWithin, IsWithin, added_within, either_within, first_within, greatest_front, greatest_last, sign_exact, signed_within, some_within_more, where_true, within_more, wrapped_within}
-use Rattle.sql_exec.proofs.Fitted.{FitsItems, FitsRow, FitsView, entered, kept_fits, no_column, no_rows_fit, none_seen, product_fits, table_fits}
+use Rattle.sql_exec.proofs.Fitted.{FitsRow, FitsView}
 
 -- what is said of equal parts
 within_at : {j k : JudgedScalar} {u v : Value} → j ≡ k → u ≡ v → IsWithin k.shape.bound v → IsWithin j.shape.bound u

@@ -24,7 +24,7 @@ use Rattle.sql_tree.specs.declared.tree.SqlSource as source_of
 use Rattle.sql_tree.specs.declared.tree.SqlTable.{SqlTable}
 use Rattle.sql_tree.specs.declared.tree.SqlWhen.{SqlWhen}
 use Rattle.sql_tree.specs.declared.tree.SumTerm.{SumTerm}
-use Rattle.sql_tree.specs.Meaning.{Scope, Scopes, is_kept, else_value, or_else, first_some}
+use Rattle.sql_tree.specs.Meaning.{Scopes, is_kept, else_value, or_else, first_some}
 use Rattle.sql_exec.specs.Wrapping as meaning
 use Rattle.sql_exec.specs.Wrapping.{truth_in, value_in, rows_in, from_rows, source_rows, item_value, term_value, wrapped_sign, wrapped_sum}
 use Rattle.sql_exec.proofs.WrappingReads.{truth_in-And, truth_in-Or, truth_in-Not, truth_in-Compare, truth_in-Between, truth_in-OneOf, truth_in-IsNull, truth_in-Exists, value_in-Column, value_in-Number, value_in-Chars, value_in-Sum, value_in-Case, when_value_is, term_value_is, item_value_is, rows_in_is, from_rows_is, source_rows-Table, source_rows-Derived}

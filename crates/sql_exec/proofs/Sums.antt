@@ -48,11 +48,11 @@ pub next_sum : {X : Type 0} (f : X → Value) (xs : List X) (i : ℕ) (d x : X) 
     → (wrapped_sum (map f xs) ≡ wrapped (added after (sum_of (map f (drop (i + 1) xs))))) × (after ≡ wrapped (added after (Num (pos 0))))
 next_sum f xs i d x before term after within is at_term is_after so_far = (
   so_far
-  ∙ ap (λ rest. wrapped (added before (sum_of (map f rest)))) (drop-cons xs i d within)
-  ∙ ap (λ v. wrapped (added before (added v (sum_of (map f (drop (suc i) xs)))))) (ap f (sym is) ∙ sym at_term)
-  ∙ added_grouped before term (sum_of (map f (drop (suc i) xs)))
-  ∙ ap (λ v. wrapped (added v (sum_of (map f (drop (suc i) xs))))) (sym is_after)
-  ∙ ap (λ n. wrapped (added after (sum_of (map f (drop n xs))))) (let e : suc i ≡ i + 1 = omega arith in e),
+      ∙ ap (λ rest. wrapped (added before (sum_of (map f rest)))) (drop-cons xs i d within)
+      ∙ ap (λ v. wrapped (added before (added v (sum_of (map f (drop (suc i) xs)))))) (ap f (sym is) ∙ sym at_term)
+      ∙ added_grouped before term (sum_of (map f (drop (suc i) xs)))
+      ∙ ap (λ v. wrapped (added v (sum_of (map f (drop (suc i) xs))))) (sym is_after)
+      ∙ ap (λ n. wrapped (added after (sum_of (map f (drop n xs))))) (let e : suc i ≡ i + 1 = omega arith in e),
   is_after ∙ sum_at_end before term ∙ ap (λ v. wrapped (added v (Num (pos 0)))) (sym is_after),
 )
 

@@ -1,6 +1,6 @@
--- What the parts of a query mean once each FROM item is the rows that it has. Which rows a part sees
--- is as for SQL queries: those of the query that it stands in, and of the queries round it. Sums and
--- signs are taken in the range of a 128-bit number.
+-- What the parts of a query mean once each FROM item is the rows that it has. Which rows a part
+-- sees is as for SQL queries: those of the query that it stands in, and of the queries round it.
+-- Sums and signs are taken in the range of a 128-bit number.
 use Rattle.std.specs.Prelude.{Bool, true, if◌then◌else◌, Option, Some, None, List, [], ◌∷◌, ◌++◌, map}
 use Rattle.std.specs.List.{flat_map, list_any}
 use Rattle.prefsql_values.specs.declared.truth.Truth.{Truth}

@@ -1,6 +1,6 @@
--- What SQL queries mean where each sum, and each number with the other sign, is taken in the range of
--- a 128-bit number, as the machine takes it: a result past an end goes on at the other. In all else
--- it is what they mean.
+-- What SQL queries mean where each sum, and each number with the other sign, is taken in the range
+-- of a 128-bit number, as the machine takes it: a result past an end goes on at the other. In all
+-- else it is what they mean.
 use Rattle.std.specs.Prelude.{Bool, true, false, List, map}
 use Rattle.std.specs.Int.{int_wrap, w128}
 use Rattle.prefsql_values.specs.declared.value.Value.{Value}

@@ -1,6 +1,6 @@
 //! The truth of a condition and the value of a scalar, for the rows that they see. Sums and signs are taken
-//! in the range of a 128-bit number. The values that a well-formed query speaks of are at most 10^36 by its
-//! static bounds, so that none of them wraps.
+//! in the range of a 128-bit number. No number in a well-formed query is past 10^36, by its static bounds,
+//! so that none of them wraps.
 ghost use Rattle.std.specs.Prelude.{◌≡◌, true, map, IfOk, OnOk, [], ◌∷◌, ◌++◌};
 ghost use Rattle.std.specs.List.{list_any};
 ghost use Rattle.std.specs.Option.{option_map};
