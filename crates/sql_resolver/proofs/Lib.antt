@@ -1,6 +1,5 @@
 pub mod OutcomeLaws
 pub mod SumLaws
-pub mod ExampleSchema
 pub mod BoundedQueries
 pub mod Bounded
 pub mod StatementLaws

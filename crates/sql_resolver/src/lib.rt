@@ -15,7 +15,5 @@ mod resolver;
 mod scalars;
 mod scope;
 mod statements;
-#[cfg(test)]
-mod tests;
 
 pub use statements::{ResolveFault, resolve};
