@@ -1,18 +1,21 @@
 -- What a column's name reads as, and a key of an order, by what the name means.
 use Rattle.std.proofs.Common.{◌≡◌, ℕ, Option, Some, None, Ok, Err, List, [], ◌∷◌, refl, ap, ◌∙◌, sym}
 use Rattle.std.specs.Option.{option_map}
+use Rattle.std.specs.Str.{bytes_eq}
 use Rattle.query_tree.specs.declared.name.NameTree.{NameTree}
+use Rattle.query_tree.specs.declared.query.OrderName.{OrderName}
+use Rattle.query_tree.specs.declared.query.OrderName.TheVariants.{Name}
 use Rattle.query_tree.specs.declared.query.OrderTree.{OrderTree}
 use Rattle.sql_tree.specs.declared.tree.SqlPlace.{SqlPlace}
 use Rattle.sql_tree.specs.declared.tree.SqlScalar.{Column}
 use Rattle.sql_resolver.specs.Found.{capped, found_scalar}
 use Rattle.sql_resolver.specs.Meant.{meaning}
-use Rattle.sql_resolver.specs.NamesMeant.{column_part}
+use Rattle.sql_resolver.specs.NamesMeant.{column_part, positions_from}
 use Rattle.sql_resolver.specs.Ordered.{found_key}
 use Rattle.sql_resolver.specs.Owed.{fault}
 use Rattle.sql_resolver.specs.Reading.{column_reading}
-use Rattle.sql_resolver.specs.Scope.{Scopes, column_at}
-use Rattle.sql_resolver.specs.Statements.{named_key}
+use Rattle.sql_resolver.specs.Scope.{ScopeColumn, Scopes, column_at}
+use Rattle.sql_resolver.specs.Statements.{key_reading, named_key}
 use Rattle.sql_resolver.specs.declared.found.FoundScalar.{FoundScalar}
 use Rattle.sql_resolver.specs.declared.meaning.Meaning.{Meaning}
 use Rattle.sql_resolver.specs.declared.meaning.Meaning.TheVariants.{One, Several}
@@ -72,3 +75,10 @@ pub ambiguous_key : (tree : OrderTree) (positions : List ℕ) → Some Several �
 ambiguous_key tree [] several = absurd (cc)
 ambiguous_key tree (a ∷ []) several = absurd (cc)
 ambiguous_key tree (a ∷ b ∷ more) several = refl
+
+pub key_named : (columns : List ScopeColumn) (tree : OrderTree) (name : List ℕ) → tree.key ≡ Name name
+    → found_key (named_key tree (positions_from 0 (λ (column : ScopeColumn). bytes_eq name column.name) columns)) ≡ found_key (key_reading columns tree)
+key_named columns tree name is =
+    let named : OrderName → OrderTree = λ key. record { key = key; descending = tree.descending; at = tree.at } in
+    (λ j. found_key (named_key (named (is j)) (positions_from 0 (λ (column : ScopeColumn). bytes_eq name column.name) columns)))
+    ∙ (λ j. found_key (key_reading columns (named (sym is j))))

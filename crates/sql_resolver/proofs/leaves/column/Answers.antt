@@ -1,6 +1,7 @@
-use Rattle.std.proofs.Common.{◌≡◌, ◌∙◌, sym}
+use Rattle.std.proofs.Common.{◌≡◌, ◌∙◌, Some, ap, sym}
 use Rattle.sql_resolver.specs.NamesMeant.{column_part, places_of}
 use Rattle.sql_resolver.specs.Scope.{names_in}
+use Rattle.sql_resolver.specs.declared.meaning.Meaning.TheVariants.{One, Several}
 use Rattle.sql_resolver.proofs.ColumnLaws.{ambiguous_column, known_column, unknown_column}
 use Rattle.sql_resolver.proofs.leaves.column.Goals as goal
 
@@ -11,16 +12,18 @@ returns-in-None c =
     ∙ unknown_column name c.args.levels.now (places_of name.first name.second 0 (names_in c.args.levels.now)) c.in_ok-part.part
     (c.in_ok-part.ensures ∙ c.column_part.ensures) (sym c.in-None.is ∙ c.in_ok-found.ensures)
 
-pub returns-in-One : goal.returns-in-One
-returns-in-One c =
+pub returns-in-Some-One : goal.returns-in-Some-One
+returns-in-Some-One c =
     let name = c.args.name.now in
+    let found_one : c.in-Some-One.field-0 ≡ One c.in-Some-One.place = rw c.in-Some-One.is at c.in-Some-One.field-0-is in
     c.column_of.ensures
-    ∙ known_column name c.args.levels.now (places_of name.first name.second 0 (names_in c.args.levels.now)) c.in_ok-part.part c.in-One.place
-    (c.in_ok-part.ensures ∙ c.column_part.ensures) (sym c.in-One.is ∙ c.in_ok-found.ensures)
+    ∙ known_column name c.args.levels.now (places_of name.first name.second 0 (names_in c.args.levels.now)) c.in_ok-part.part c.in-Some-One.place
+    (c.in_ok-part.ensures ∙ c.column_part.ensures) (sym (c.in-Some-One.is ∙ ap Some found_one) ∙ c.in_ok-found.ensures)
 
-pub returns-in-Several : goal.returns-in-Several
-returns-in-Several c =
+pub returns-in-Some-Several : goal.returns-in-Some-Several
+returns-in-Some-Several c =
     let name = c.args.name.now in
-    c.no_column-2.ensures
+    let found_several : c.in-Some-Several.field-0 ≡ Several = rw c.in-Some-Several.is at c.in-Some-Several.field-0-is in
+    c.no_column-in-Some-Several.ensures
     ∙ ambiguous_column name c.args.levels.now (places_of name.first name.second 0 (names_in c.args.levels.now)) c.in_ok-part.part
-    (c.in_ok-part.ensures ∙ c.column_part.ensures) (sym c.in-Several.is ∙ c.in_ok-found.ensures)
+    (c.in_ok-part.ensures ∙ c.column_part.ensures) (sym (c.in-Some-Several.is ∙ ap Some found_several) ∙ c.in_ok-found.ensures)
