@@ -110,7 +110,7 @@ column_more first second before called columns i column item at small is count p
     let same_item : item ≡ 0 + length before = omega (arith, count) in
     let same_column : at ≡ length names = omega (arith, place, as_many) in
     (λ i. places_in first second 0 0 (before ++ record { name = called; columns = names } ∷ [])
-        ++ (if can_mean called column.name first second then placed 0 (same_item i) (same_column i) ∷ [] else []))
+    ++ (if can_mean called column.name first second then placed 0 (same_item i) (same_column i) ∷ [] else []))
     ∙ sym (places_more first second 0 0 before called names column.name)
     ∙ ap (λ cs. places_in first second 0 0 (before ++ record { name = called; columns = cs } ∷ [])) (columns_more columns i column small is)
 

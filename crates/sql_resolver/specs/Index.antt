@@ -63,7 +63,7 @@ AreCalled items called =
     (name : List ℕ) → contains_text called name ≡ list_any (is_called name) items
 
 pub record IsIndexed {S T : Type 0} (items : List ItemNames) (called : HashSet (String Global) S)
-  (columns : HashMap NameKey (Meaning SqlPlace) T) : Type 0 where
+    (columns : HashMap NameKey (Meaning SqlPlace) T) : Type 0 where
   pub by_item : AreCalled items called
   pub by_column : IsIndexOf items columns
 

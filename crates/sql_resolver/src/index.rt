@@ -83,8 +83,8 @@ fn add_column(
     ensures { OnOk result ((places : List ℕ → Option (List ℕ) → List SqlPlace)
         → Tells places columns.old
         → Tells (λ first second. places first second
-            ++ (if can_mean called.now name.now first second then place ∷ [] else []))
-            columns.new) }
+        ++ (if can_mean called.now name.now first second then place ∷ [] else []))
+        columns.new) }
 {
     let bare = NameKey::bare(alloc, name)?;
     add(columns, bare, place)?;
@@ -142,10 +142,7 @@ pub(crate) fn names_called(alloc: Global, items: &[ScopeItem]) -> Result<HashSet
 }
 
 /// What a name means that means this among the items themselves, seen from so far within.
-pub(crate) fn seen_from(
-    known: Option<Meaning<SqlPlace>>,
-    up: u32,
-) -> Option<Meaning<SqlPlace>>
+pub(crate) fn seen_from(known: Option<Meaning<SqlPlace>>, up: u32) -> Option<Meaning<SqlPlace>>
     ensures { result ≡ option_map (another (seen_from up)) known }
 {
     match known {

@@ -28,7 +28,7 @@ loop-at-preserved c = λ before count listed key.
     (λ first second. places_in first second 0 0 (before ++ record { name = item.name; columns = column_names (take i item.columns) } ∷ []))
     (c.loop-at.invariant before count listed) key
     ∙ (λ j. meaning (places_in f s 0 0 (before ++ record { name = item.name; columns = names } ∷ [])
-        ++ (if can_mean (called_is j) (name_is j) f s then record { up = 0; item = c.args.item_at; column = narrow } ∷ [] else [])))
+    ++ (if can_mean (called_is j) (name_is j) f s then record { up = 0; item = c.args.item_at; column = narrow } ∷ [] else [])))
     ∙ ap meaning (column_more f s before item.name item.columns i column c.args.item_at narrow small is count c.in_ok-narrow.ensures)
 
 pub returns : goal.returns
