@@ -1,4 +1,9 @@
 pub mod OutcomeLaws
+pub mod MeaningLaws
+pub mod ColumnLaws
+pub mod IndexLaws
+pub mod PlaceLaws
+pub mod RepeatLaws
 pub mod SumLaws
 pub mod BoundedQueries
 pub mod Bounded

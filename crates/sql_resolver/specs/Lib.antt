@@ -4,6 +4,7 @@ pub mod Owed
 pub mod Reading
 pub mod Statements
 pub mod Outcomes
-pub mod Levels
 pub mod Found
 pub mod Ordered
+pub mod Meant
+pub mod Index

@@ -1,8 +1,6 @@
 //! FROM items.
 
 ghost use Rattle.std.specs.Prelude.{◌≡◌, IfOk, None, Some, [], if◌then◌else◌, map};
-ghost use Rattle.std.specs.List.{list_any};
-ghost use Rattle.std.specs.Str.{bytes_eq};
 ghost use Rattle.prefsql_tables.specs.Names.{table_place};
 ghost use Rattle.prefsql_tables.specs.Table.{HasTable};
 ghost use Rattle.sql_resolver.specs.Owed.{fault};
@@ -21,6 +19,7 @@ use prefsql_values::{Boxed, Domain, List, Memory, Text};
 use query_tree::FromTree;
 use sql_tree::{SqlFrom, SqlSource, SqlTable};
 use std::alloc::Global;
+use std::collections::HashSet;
 
 const UNKNOWN_TABLE: u16 = 301;
 
@@ -166,38 +165,25 @@ pub(crate) fn derived(
     })
 }
 
-/// Whether one of the items has this name.
-fn is_named(froms: &[FoundFrom], name: &str) -> bool
-    ensures { result ≡ list_any (bytes_eq name.now)
-        (map (λ (from : FoundFrom). from.name) froms.now) }
-{
-    for from in froms {
-        if name == from.name.as_str() {
-            return true;
-        }
-    }
-    false
-}
-
 /// The first fault of an item that has the name of an earlier one.
 #[tactic(auto, using(crate::proofs::OutcomeLaws::earlier_ifs))]
-fn first_repeated(froms: &[FoundFrom]) -> Option<Fault>
-    ensures { result ≡ found.first_repeated [] froms.now }
+fn first_repeated(alloc: Global, froms: &[FoundFrom]) -> Result<Option<Fault>, Memory>
+    ensures { IfOk result (λ fault. fault ≡ found.first_repeated [] froms.now) }
 {
     let mut fault = None;
-    for (at, from) in froms.iter().enumerate() {
-        fault = earlier_if(fault, repeated(&froms[..at], from));
+    let mut names = HashSet::new(alloc);
+    for from in froms {
+        let is_new = names.insert(from.name.as_str())?;
+        fault = earlier_if(fault, repeated(!is_new, from));
     }
-    fault
+    Ok(fault)
 }
 
-/// The fault of an item that has the name of one of those before it.
-fn repeated(before: &[FoundFrom], from: &FoundFrom) -> Option<Fault>
-    ensures { result ≡ if list_any (bytes_eq from.now.name)
-        (map (λ (from : FoundFrom). from.name) before.now)
-        then Some (fault 302 from.now.name_at) else None }
+/// The fault of an item whose name is repeated.
+fn repeated(is_repeated: bool, from: &FoundFrom) -> Option<Fault>
+    ensures { result ≡ if is_repeated then Some (fault 302 from.now.name_at) else None }
 {
-    if is_named(before, from.name.as_str()) {
+    if is_repeated {
         Some(Fault {
             at: from.name_at,
             spot: Spot {
@@ -232,7 +218,7 @@ pub(crate) fn from_items(
 ) -> Result<Result<List<(SqlFrom, ScopeItem)>, Fault>, Memory>
     ensures { IfOk result (λ items. items ≡ found.from_items froms.items) }
 {
-    let fault = first_repeated(&froms);
+    let fault = first_repeated(alloc, &froms)?;
     let items = all_of(alloc, items_of(alloc, froms)?)?;
     Ok(also(items, fault))
 }

@@ -11,8 +11,9 @@ ghost use Rattle.sql_resolver.specs.Scope as scope;
 
 use crate::fault::Fault;
 use crate::found::FoundScalar;
+use crate::meaning::Meaning;
 use crate::scalars::capped;
-use crate::scope::{Level, ScopeColumn, column_part, places_of};
+use crate::scope::{Level, ScopeColumn, column_part, meaning_of};
 use prefsql_lexer::Spot;
 use prefsql_values::{Domain, Memory, Text, Value};
 use query_tree::{LiteralTree, NameTree};
@@ -99,11 +100,11 @@ pub(crate) fn column(
         (places_of name.now.first name.now.second 0 (scope.names_in levels.now)))) }
 {
     let part = Text::of(alloc, column_part(name))?;
-    let places = places_of(alloc, name, levels)?;
-    match places.as_slice() {
-        [] => Ok(no_column(name, part, UNKNOWN_COLUMN)),
-        [place] => Ok(column_of(name, part, levels, *place)),
-        _ => Ok(no_column(name, part, AMBIGUOUS_COLUMN)),
+    let found = meaning_of(alloc, name, levels)?;
+    match found {
+        None => Ok(no_column(name, part, UNKNOWN_COLUMN)),
+        Some(Meaning::One(place)) => Ok(column_of(name, part, levels, place)),
+        Some(Meaning::Several) => Ok(no_column(name, part, AMBIGUOUS_COLUMN)),
     }
 }
 

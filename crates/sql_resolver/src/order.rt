@@ -1,7 +1,8 @@
 //! ORDER BY.
 
-ghost use Rattle.std.specs.Prelude.{◌≡◌, Err, IfOk, map};
+ghost use Rattle.std.specs.Prelude.{◌≡◌, Err, IfOk, List, map, ℕ};
 ghost use Rattle.std.specs.Str.{bytes_eq};
+ghost use Rattle.sql_resolver.specs.Meant.{meaning};
 ghost use Rattle.sql_resolver.specs.NamesMeant.{positions_from};
 ghost use Rattle.sql_resolver.specs.Ordered as spec;
 ghost use Rattle.sql_resolver.specs.Owed.{fault};
@@ -9,12 +10,14 @@ ghost use Rattle.sql_resolver.specs.Statements.{key_reading, named_key, numbered
 ghost use Rattle.sql_resolver.specs.Scope.{ScopeColumn};
 
 use crate::fault::Fault;
+use crate::meaning::{Meaning, one_more};
 use crate::scope::{ScopeColumn, narrow};
 use prefsql_lexer::Spot;
 use prefsql_tables::SortKey;
 use prefsql_values::Memory;
 use query_tree::{OrderName, OrderTree};
 use std::alloc::Global;
+use std::collections::HashMap;
 
 const UNKNOWN_OUTPUT: u16 = 314;
 
@@ -22,18 +25,20 @@ const AMBIGUOUS_OUTPUT: u16 = 315;
 
 const NO_SUCH_POSITION: u16 = 316;
 
-/// The positions of the columns that have the name.
-fn positions(alloc: Global, name: &str, columns: &[ScopeColumn]) -> Result<Vec<u32>, Memory>
-    ensures { IfOk result (λ positions. positions.items
-        ≡ positions_from 0 (λ (column : ScopeColumn). bytes_eq name.now column.name) columns.now) }
+/// What each name means among those of the columns.
+fn columns_by_name<'c>(
+    alloc: Global,
+    columns: &'c [ScopeColumn],
+) -> Result<HashMap<&'c str, Meaning<u32>>, Memory>
+    ensures { IfOk result (spec.ShowsColumns columns.now) }
 {
-    let mut positions = Vec::new(alloc);
+    let mut named = HashMap::new(alloc);
     for (at, column) in columns.iter().enumerate() {
-        if name == column.name.as_str() {
-            positions.push(narrow(at)?)?;
-        }
+        let name = column.name.as_str();
+        let known = named.get(name).copied();
+        named.insert(name, one_more(known, narrow(at)?))?;
     }
-    Ok(positions)
+    Ok(named)
 }
 
 /// A key that has a fault.
@@ -46,32 +51,19 @@ fn faulty(code: u16, at: u32) -> Result<SortKey, Fault>
     })
 }
 
-/// A key by the positions of the columns that have its name.
-fn named_key(tree: &OrderTree, positions: &[u32]) -> Result<SortKey, Fault>
-    ensures { result ≡ spec.found_key (named_key tree.now positions.now) }
+/// A key by what its name means.
+fn named_key(tree: &OrderTree, column: Option<Meaning<u32>>) -> Result<SortKey, Fault>
+    ensures { (positions : List ℕ) → column ≡ meaning positions
+        → result ≡ spec.found_key (named_key tree.now positions) }
 {
-    match positions {
-        [] => faulty(UNKNOWN_OUTPUT, tree.at),
-        [column] => Ok(SortKey {
-            column: *column,
+    match column {
+        None => faulty(UNKNOWN_OUTPUT, tree.at),
+        Some(Meaning::One(column)) => Ok(SortKey {
+            column,
             descending: tree.descending,
         }),
-        _ => faulty(AMBIGUOUS_OUTPUT, tree.at),
+        Some(Meaning::Several) => faulty(AMBIGUOUS_OUTPUT, tree.at),
     }
-}
-
-/// A key by its name.
-fn key_by_name(
-    alloc: Global,
-    columns: &[ScopeColumn],
-    tree: &OrderTree,
-    name: &str,
-) -> Result<Result<SortKey, Fault>, Memory>
-    ensures { IfOk result (λ key. key ≡ spec.found_key (named_key tree.now (positions_from 0
-        (λ (column : ScopeColumn). bytes_eq name.now column.name) columns.now))) }
-{
-    let positions = positions(alloc, name, columns)?;
-    Ok(named_key(tree, positions.as_slice()))
 }
 
 /// A key by its position from 1, where there are so many columns.
@@ -88,17 +80,32 @@ fn numbered_key(tree: &OrderTree, n: i64, count: usize) -> Result<Result<SortKey
     }))
 }
 
-/// A key of the order over these output columns.
-fn key(
-    alloc: Global,
-    columns: &[ScopeColumn],
-    tree: &OrderTree,
-) -> Result<Result<SortKey, Fault>, Memory>
-    ensures { IfOk result (λ key. key ≡ spec.found_key (key_reading columns.now tree.now)) }
-{
-    match &tree.key {
-        OrderName::Name(name) => key_by_name(alloc, columns, tree, name.as_str()),
-        OrderName::Position(n) => numbered_key(tree, *n, columns.len()),
+/// Output columns, and what their names mean.
+#[derive(Drop)]
+pub struct Outputs<'c> {
+    pub columns: &'c [ScopeColumn],
+    pub named: HashMap<&'c str, Meaning<u32>>,
+    ghost shown: { spec.ShowsColumns columns.now named },
+}
+
+impl Outputs<'_> {
+    /// A key by its name.
+    fn key_by_name(&self, tree: &OrderTree, name: &str) -> Result<SortKey, Fault>
+        ensures { result ≡ spec.found_key (named_key tree.now (positions_from 0
+            (λ (column : ScopeColumn). bytes_eq name.now column.name) self.now.columns.now)) }
+    {
+        named_key(tree, self.named.get(name).copied())
+    }
+
+    /// A key of the order.
+    fn key(&self, tree: &OrderTree) -> Result<Result<SortKey, Fault>, Memory>
+        ensures { IfOk result (λ key. key
+            ≡ spec.found_key (key_reading self.now.columns.now tree.now)) }
+    {
+        match &tree.key {
+            OrderName::Name(name) => Ok(self.key_by_name(tree, name.as_str())),
+            OrderName::Position(n) => numbered_key(tree, *n, self.columns.len()),
+        }
     }
 }
 
@@ -111,9 +118,11 @@ pub(crate) fn keys(
     ensures { IfOk result (λ keys. keys.items
         ≡ map (λ tree. spec.found_key (key_reading columns.now tree)) order.now) }
 {
+    let named = columns_by_name(alloc, columns)?;
+    let outputs = Outputs { columns, named };
     let mut keys = Vec::new(alloc);
     for tree in order {
-        keys.push(key(alloc, columns, tree)?)?;
+        keys.push(outputs.key(tree)?)?;
     }
     Ok(keys)
 }

@@ -1,18 +1,19 @@
 //! Names in scope, and the columns that a name can mean.
 
-ghost use Rattle.std.specs.Prelude.{◌≡◌, ◌∷◌, ◌++◌, IfOk, None, OnOk, map};
-ghost use Rattle.std.specs.Str.{bytes_eq};
-ghost use Rattle.std.specs.List.{list_any};
-ghost use Rattle.sql_tree.specs.declared.tree.SqlPlace.{SqlPlace};
-ghost use Rattle.sql_resolver.specs.Levels.{column_names, places_among};
-ghost use Rattle.sql_resolver.specs.NamesMeant.{column_part, decides, is_asked, is_called, places_in, places_of};
+ghost use Rattle.std.specs.Prelude.{◌≡◌, ◌∷◌, IfOk};
+ghost use Rattle.sql_resolver.specs.Index.{key_first, key_second};
+ghost use Rattle.sql_resolver.specs.Meant.{meaning};
+ghost use Rattle.sql_resolver.specs.NamesMeant.{column_part, decides, places_in, places_of};
 ghost use Rattle.sql_resolver.specs.Reading.{own_scope};
 ghost use Rattle.sql_resolver.specs.Scope.{names_in, scope_names};
 
+use crate::index::{NameKey, columns_by_name, names_called, seen_from};
+use crate::meaning::Meaning;
 use prefsql_values::{Domain, List, Memory, Text};
 use query_tree::NameTree;
 use sql_tree::SqlPlace;
 use std::alloc::Global;
+use std::collections::{HashMap, HashSet};
 use std::marker::Model;
 use std::rc::Rc;
 
@@ -47,10 +48,69 @@ impl Model for ScopeItem {
     ghost view = { λ i. record { name = i.name; columns = i.columns } };
 }
 
+/// The FROM items of a query, and what finds them and their columns by name.
+#[derive(Drop)]
+pub struct Indexed {
+    items: List<ScopeItem>,
+    called: HashSet<String>,
+    columns: HashMap<NameKey, Meaning<SqlPlace>>,
+}
+
+impl Model for Indexed {
+    ghost use Rattle.sql_resolver.specs.Index.{IsIndexed};
+    ghost use Rattle.sql_resolver.specs.Scope as scope;
+
+    ghost Value = { scope.Scope };
+
+    ghost view = { λ i. i.items };
+
+    ghost invariant = { λ i. IsIndexed (scope.scope_names i.items) i.called i.columns };
+}
+
+impl Indexed {
+    /// The items with their index.
+    fn of(alloc: Global, items: List<ScopeItem>) -> Result<Indexed, Memory>
+        ensures { IfOk result (λ indexed. indexed ≡ items) }
+    {
+        let shown = items.as_slice();
+        let called = names_called(alloc, shown)?;
+        let columns = columns_by_name(alloc, shown)?;
+        Ok(Indexed {
+            items,
+            called,
+            columns,
+        })
+    }
+
+    fn items(&self) -> &[ScopeItem]
+        ensures { result.now ≡ self.now }
+    {
+        self.items.as_slice()
+    }
+
+    /// Whether the name means a column of these items, or of none.
+    fn decides(&self, name: &NameKey) -> bool
+        ensures { result ≡ decides (key_first name.now) (key_second name.now) (scope_names self.now) }
+    {
+        match &name.second {
+            None => self.columns.contains_key(name),
+            Some(_) => self.called.contains(name.first.as_str()),
+        }
+    }
+
+    /// What the name means among the columns of these items, which are seen from so far within.
+    fn meaning(&self, name: &NameKey, up: u32) -> Option<Meaning<SqlPlace>>
+        ensures { result ≡ meaning
+            (places_in (key_first name.now) (key_second name.now) up 0 (scope_names self.now)) }
+    {
+        seen_from(self.columns.get(name).copied(), up)
+    }
+}
+
 /// The FROM items of a query, which the queries in it share.
-#[derive(Debug, Drop)]
+#[derive(Drop)]
 pub struct Level {
-    items: Rc<List<ScopeItem>>,
+    items: Rc<Indexed>,
 }
 
 impl Model for Level {
@@ -66,7 +126,7 @@ impl Level {
     fn of(alloc: Global, items: List<ScopeItem>) -> Result<Level, Memory>
         ensures { IfOk result (λ level. level ≡ items) }
     {
-        match Rc::new(alloc, items) {
+        match Rc::new(alloc, Indexed::of(alloc, items)?) {
             Ok(items) => Ok(Level { items }),
             Err(_) => Err(Memory),
         }
@@ -85,7 +145,22 @@ impl Level {
     pub(crate) fn items(&self) -> &[ScopeItem]
         ensures { result.now ≡ self.now }
     {
-        self.items.as_ref().as_slice()
+        self.items.as_ref().items()
+    }
+
+    /// Whether the name means a column of these items, or of none.
+    fn decides(&self, name: &NameKey) -> bool
+        ensures { result ≡ decides (key_first name.now) (key_second name.now) (scope_names self.now) }
+    {
+        self.items.as_ref().decides(name)
+    }
+
+    /// What the name means among the columns of these items, which are seen from so far within.
+    fn meaning(&self, name: &NameKey, up: u32) -> Option<Meaning<SqlPlace>>
+        ensures { result ≡ meaning
+            (places_in (key_first name.now) (key_second name.now) up 0 (scope_names self.now)) }
+    {
+        self.items.as_ref().meaning(name, up)
     }
 }
 
@@ -127,17 +202,6 @@ pub(crate) fn narrow(n: usize) -> Result<u32, Memory>
     }
 }
 
-/// Whether the item can have the column that the name means.
-fn is_asked(name: &NameTree, item: &ScopeItem) -> bool
-    ensures { result ≡ is_asked name.now.first name.now.second
-        (record { name = item.now.name; columns = column_names item.now.columns }) }
-{
-    match &name.second {
-        None => true,
-        Some(_) => name.first.as_str() == item.name.as_str(),
-    }
-}
-
 /// The name of the column, without that of its item.
 pub(crate) fn column_part(name: &NameTree) -> &str
     ensures { result.now ≡ column_part name.now.first name.now.second }
@@ -148,109 +212,20 @@ pub(crate) fn column_part(name: &NameTree) -> &str
     }
 }
 
-/// Whether one of the columns has this name.
-fn has_column(name: &str, columns: &[ScopeColumn]) -> bool
-    ensures { result ≡ list_any (bytes_eq name.now) (column_names columns.now) }
-{
-    for column in columns {
-        if name == column.name.as_str() {
-            return true;
-        }
-    }
-    false
-}
-
-/// Whether one of the items has a column of this name.
-fn decides_alone(name: &str, items: &[ScopeItem]) -> bool
-    ensures { result ≡ decides name.now None (scope_names items.now) }
-{
-    for item in items {
-        if has_column(name, item.columns.as_slice()) {
-            return true;
-        }
-    }
-    false
-}
-
-/// Whether one of the items is called so.
-fn is_one_called(called: &str, items: &[ScopeItem]) -> bool
-    ensures { result ≡ list_any (is_called called.now) (scope_names items.now) }
-{
-    for item in items {
-        if called == item.name.as_str() {
-            return true;
-        }
-    }
-    false
-}
-
-/// Whether the name means a column of these items, or of none.
-fn decides(name: &NameTree, items: &[ScopeItem]) -> bool
-    ensures { result ≡ decides name.now.first name.now.second (scope_names items.now) }
-{
-    match &name.second {
-        None => decides_alone(name.first.as_str(), items),
-        Some(_) => is_one_called(name.first.as_str(), items),
-    }
-}
-
-/// Adds the places of the columns of an item that have the name.
-fn push_columns(
-    places: &mut Vec<SqlPlace>,
-    up: u32,
-    item: u32,
-    name: &str,
-    columns: &[ScopeColumn],
-) -> Result<(), Memory>
-    ensures { OnOk result (places.new.items
-        ≡ places.old.items ++ places_among up item 0 name.now columns.now) }
-{
-    for (at, column) in columns.iter().enumerate() {
-        if name == column.name.as_str() {
-            places.push(SqlPlace {
-                up,
-                item,
-                column: narrow(at)?,
-            })?;
-        }
-    }
-    Ok(())
-}
-
-/// Adds the columns of these items that the name can mean.
-fn push_places(
-    places: &mut Vec<SqlPlace>,
-    up: u32,
-    name: &NameTree,
-    items: &[ScopeItem],
-) -> Result<(), Memory>
-    ensures { OnOk result (places.new.items ≡ places.old.items
-        ++ places_in name.now.first name.now.second up 0 (scope_names items.now)) }
-{
-    for (at, item) in items.iter().enumerate() {
-        if is_asked(name, item) {
-            let at = narrow(at)?;
-            push_columns(places, up, at, column_part(name), item.columns.as_slice())?;
-        }
-    }
-    Ok(())
-}
-
-/// The columns that the name can mean.
-pub(crate) fn places_of(
+/// What the name means in the innermost of the levels that decides it.
+pub(crate) fn meaning_of(
     alloc: Global,
     name: &NameTree,
     levels: &[Level],
-) -> Result<Vec<SqlPlace>, Memory>
-    ensures { IfOk result (λ places. places.items
-        ≡ places_of name.now.first name.now.second 0 (names_in levels.now)) }
+) -> Result<Option<Meaning<SqlPlace>>, Memory>
+    ensures { IfOk result (λ found. found
+        ≡ meaning (places_of name.now.first name.now.second 0 (names_in levels.now))) }
 {
-    let mut places = Vec::new(alloc);
+    let key = NameKey::of(alloc, name)?;
     for (up, level) in levels.iter().enumerate() {
-        if decides(name, level.items()) {
-            push_places(&mut places, narrow(up)?, name, level.items())?;
-            return Ok(places);
+        if level.decides(&key) {
+            return Ok(level.meaning(&key, narrow(up)?));
         }
     }
-    Ok(places)
+    Ok(None)
 }

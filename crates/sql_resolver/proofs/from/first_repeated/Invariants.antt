@@ -1,10 +1,9 @@
-use Rattle.std.proofs.Common.{◌≡◌, [], drop, map, take}
-use Rattle.sql_resolver.specs.declared.found.FoundFrom.{FoundFrom}
-use Rattle.sql_resolver.specs.Found.{first_repeated}
-use Rattle.sql_resolver.specs.Outcomes.{earlier_if}
+use Rattle.std.specs.HashSet.{contains}
+use Rattle.std.specs.Str.{bytes_eq}
+use denote.Ref.{Bor}
+use Rattle.std.proofs.Common.{ℕ, List}
+use Rattle.sql_resolver.proofs.RepeatLaws.{AreSeen}
 use Rattle.sql_resolver.proofs.from.first_repeated.Given as goal
 
-abbrev pub invariant-loop-at : goal.invariant-loop-at
-invariant-loop-at l =
-    earlier_if l.fault (first_repeated (map (λ (from : FoundFrom). from.name) (take l.at l.froms)) (drop l.at l.froms))
-    ≡ first_repeated [] l.froms
+abbrev pub invariant-loop-from : goal.invariant-loop-from
+invariant-loop-from l = AreSeen l.froms l.from-index l.fault (contains (λ (x y : Bor (List ℕ)). bytes_eq x.now y.now) l.names)

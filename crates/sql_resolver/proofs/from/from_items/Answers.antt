@@ -7,7 +7,7 @@ use Rattle.sql_resolver.proofs.from.from_items.Goals as goal
 pub returns : goal.returns
 returns c =
     c.also.ensures
-    ∙ ap (λ items. also items c.first_repeated-fault.result) c.in_ok-items.ensures
-    ∙ ap (λ parts. also (all_of parts) c.first_repeated-fault.result) c.in_ok-items_of.ensures
+    ∙ ap (λ items. also items c.in_ok-fault.fault) c.in_ok-items.ensures
+    ∙ ap (λ parts. also (all_of parts) c.in_ok-fault.fault) c.in_ok-items_of.ensures
     ∙ ap (also (all_of (map (λ (from : FoundFrom). from.item) c.args.froms.items)))
-    (c.first_repeated-fault.ensures ∙ ap (first_repeated []) c.deref.ensures.value)
+    (c.in_ok-fault.ensures ∙ ap (first_repeated []) c.deref.ensures.value)
