@@ -47,7 +47,7 @@ comes_to words files task tables text work opens is = subst (λ stage. GoesOn st
 
 module _ (tables others : Tables) (tells : Bool) (script : List ℕ) (work : Work) (other : IsOther tables others)
     (is : IsScriptWork (Ask (Show Query)) tables script work) (is_written : IsWrittenAt (ready work)) (short : length (text_of work) ≤ max_bytes) where
-  asked : List Block
+  abbrev asked : List Block
   asked = is.1.0
 
   same_work : work ≡ Statements (Show Query) tables asked
@@ -60,12 +60,12 @@ module _ (tables others : Tables) (tells : Bool) (script : List ℕ) (work : Wor
   says = (subst (λ w. IsWrittenAt (ready w)) same_work is_written).whole (subst (λ text. length text ≤ max_bytes) script_is short)
 
   executed : IsScriptWork Execute others (text_of work) (Queries others (written asked))
-  executed = (short, written asked, subst (λ text. ReadsAs others text (written asked)) (sym script_is) (says.reads others other), refl)
+  executed = (short, (written asked, subst (λ text. ReadsAs others text (written asked)) (sym script_is) (says.reads others other), refl))
 
   answered : IsScriptWork (Ask (Answer tells)) others script (Statements (Answer tells) others asked)
   answered =
       let asks : AsksFor tables script asked = is.1.1 in
-      (is.0, asked, (asks.0, asks.1, asks.2, asks.3, typed_other tables others other.alike asks.1 asked asks.4), refl)
+      (is.0, (asked, (asks.0, asks.1, asks.2, asks.3, typed_other tables others other.alike asks.1 asked asks.4), refl))
 
   pub write_the_same : (executing answering : List (List ℕ)) (files : Option Files)
       → OpensWith executing files Execute others → OpensWith answering files (Ask (Answer tells)) others
