@@ -96,15 +96,7 @@ fn counted_run<L: Ledger>(
     let text = Vec::from_slice(alloc, case.script)?;
     let mut script = MemorySource::new(text, 7, Vec::from_slice(alloc, &[case.failing_read])?);
     let mut steps = Steps::<L>::new(blank);
-    Ok(run(
-        alloc,
-        &words,
-        &mut script,
-        out,
-        err,
-        &mut shelf,
-        &mut steps,
-    ))
+    Ok(run(alloc, &words, &mut script, out, err, &mut shelf, &mut steps))
 }
 
 /// Whether the run ends so.
@@ -169,7 +161,10 @@ pub(super) fn ends_each_way(
         words: answer,
         ..*case
     };
-    let by_query = Case { words: via, ..*case };
+    let by_query = Case {
+        words: via,
+        ..*case
+    };
     Ok(
         ends(alloc, &by_plan)?
             && ends(alloc, &by_query)?

@@ -82,7 +82,10 @@ fn first_faults(rt: HostRuntime) -> Result<(), Fail> {
             "error E305 at byte 34\n",
         ),
         ("SELECT id FROM cars ORDER BY 2", "error E316 at byte 29\n"),
-        ("SELECT id FROM cars WHERE id != 1", "error E101 at byte 29\n"),
+        (
+            "SELECT id FROM cars WHERE id != 1",
+            "error E101 at byte 29\n",
+        ),
         (
             "SELECT id FROM cars WHERE color = 'red",
             "error E102 at byte 34\n",
@@ -93,7 +96,10 @@ fn first_faults(rt: HostRuntime) -> Result<(), Fail> {
         ),
         ("SELECT id FROM cars, cars", "error E302 at byte 21\n"),
         ("SELECT id FROM cars a, cars b", "error E304 at byte 7\n"),
-        ("SELECT id FROM cars ORDER BY size", "error E314 at byte 29\n"),
+        (
+            "SELECT id FROM cars ORDER BY size",
+            "error E314 at byte 29\n",
+        ),
         (
             "SELECT id, power AS id FROM cars ORDER BY id",
             "error E315 at byte 42\n",
