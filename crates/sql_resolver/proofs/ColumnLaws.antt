@@ -1,5 +1,5 @@
 -- What a column's name reads as, and a key of an order, by what the name means.
-use Rattle.std.proofs.Common.{◌≡◌, ℕ, Option, Some, None, Ok, Err, List, [], ◌∷◌, refl, ap, ◌∙◌, sym}
+use Rattle.std.proofs.Common.{◌≡◌, ℕ, Some, None, Ok, Err, List, [], ◌∷◌, refl, ap, ◌∙◌, sym}
 use Rattle.std.specs.Option.{option_map}
 use Rattle.std.specs.Str.{bytes_eq}
 use Rattle.query_tree.specs.declared.name.NameTree.{NameTree}
@@ -17,7 +17,6 @@ use Rattle.sql_resolver.specs.Reading.{column_reading}
 use Rattle.sql_resolver.specs.Scope.{ScopeColumn, Scopes, column_at}
 use Rattle.sql_resolver.specs.Statements.{key_reading, named_key}
 use Rattle.sql_resolver.specs.declared.found.FoundScalar.{FoundScalar}
-use Rattle.sql_resolver.specs.declared.meaning.Meaning.{Meaning}
 use Rattle.sql_resolver.specs.declared.meaning.Meaning.TheVariants.{One, Several}
 
 -- a column whose name has no single meaning

@@ -1,9 +1,8 @@
 -- What a name means, with one thing more.
-use Rattle.std.proofs.Common.{◌≡◌, ℕ, Bool, true, false, cond, ◌&&◌, ◌||◌, Option, Some, None, List, [], ◌∷◌, ◌++◌, map, refl, sym, ap, ◌∙◌, append-nil, is_some, if◌then◌else◌}
+use Rattle.std.proofs.Common.{◌≡◌, Bool, true, false, cond, ◌&&◌, ◌||◌, Option, Some, List, [], ◌∷◌, ◌++◌, map, refl, sym, ap, ◌∙◌, append-nil, is_some, if◌then◌else◌}
 use Rattle.std.specs.Option.{option_map}
 use Rattle.sql_resolver.specs.Meant.{another, meaning, one_more}
 use Rattle.sql_resolver.specs.declared.meaning.Meaning.{Meaning}
-use Rattle.sql_resolver.specs.declared.meaning.Meaning.TheVariants.{One, Several}
 
 pub meaning_push : {A : Type 0} (things : List A) (thing : A) → meaning (things ++ thing ∷ []) ≡ Some (one_more (meaning things) thing)
 meaning_push [] thing = refl

@@ -1,4 +1,4 @@
-use Rattle.std.proofs.Common.{◌≡◌, ◌∙◌, ℕ, List, ap, sym, drop, take}
+use Rattle.std.proofs.Common.{◌∙◌, ℕ, List, ap, sym, take}
 use Rattle.std.specs.HashSet.{contains}
 use Rattle.std.specs.Str.{bytes_eq}
 use denote.Ref.{Bor}

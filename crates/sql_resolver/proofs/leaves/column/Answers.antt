@@ -1,5 +1,5 @@
 use Rattle.std.proofs.Common.{◌≡◌, ◌∙◌, Some, ap, sym}
-use Rattle.sql_resolver.specs.NamesMeant.{column_part, places_of}
+use Rattle.sql_resolver.specs.NamesMeant.{places_of}
 use Rattle.sql_resolver.specs.Scope.{names_in}
 use Rattle.sql_resolver.specs.declared.meaning.Meaning.TheVariants.{One, Several}
 use Rattle.sql_resolver.proofs.ColumnLaws.{ambiguous_column, known_column, unknown_column}

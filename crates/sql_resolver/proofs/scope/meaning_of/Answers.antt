@@ -1,9 +1,7 @@
-use Rattle.std.proofs.Common.{◌≡◌, ◌∙◌, true, false, ap, sym, drop}
-use Rattle.std.proofs.lemmas.List.{drop_all}
-use Rattle.sql_resolver.specs.Index.{key_first, key_second}
+use Rattle.std.proofs.Common.{◌≡◌, ◌∙◌, true, false, ap, sym}
 use Rattle.sql_resolver.specs.Meant.{meaning}
-use Rattle.sql_resolver.specs.NamesMeant.{decides, places_in, places_of}
-use Rattle.sql_resolver.specs.Scope.{names_in, scope_names}
+use Rattle.sql_resolver.specs.NamesMeant.{decides, places_in}
+use Rattle.sql_resolver.specs.Scope.{scope_names}
 use Rattle.sql_resolver.proofs.PlaceLaws.{decided_here, decided_later}
 use Rattle.sql_resolver.proofs.scope.meaning_of.Goals as goal
 
