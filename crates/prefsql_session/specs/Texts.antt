@@ -14,6 +14,7 @@ use Rattle.sql_text.specs.Text as sql
 use Rattle.table_csv.specs.AnswerText.{text_of_answer}
 use Rattle.sql_tree.specs.Fits.{FitsTables as FitsQuery}
 use Rattle.sql_tree.specs.Meaning as tree
+use Rattle.sql_tree.specs.WellFormed.{IsWellFormed}
 use Rattle.sql_tree.specs.declared.tree.SqlQuery.{SqlQuery}
 use Rattle.prefsql_session.specs.declared.command.Wish.{Wish}
 use Rattle.prefsql_session.specs.declared.command.Wish.TheVariants.{Answer, Show}
@@ -51,6 +52,14 @@ pub record IsAnswerable (tables : Tables) (block : Block) : Type 0 where
 abbrev pub AreAnswerable : Tables → List Block → Type 0
 AreAnswerable tables = All (IsAnswerable tables)
 
+-- an SQL query that has an answer over these tables
+pub record IsExecutable (tables : Tables) (query : SqlQuery) : Type 0 where
+  pub formed : IsWellFormed query
+  pub fits : FitsQuery tables query
+
+abbrev pub AreExecutable : Tables → List SqlQuery → Type 0
+AreExecutable tables = All (IsExecutable tables)
+
 -- how many rows the table of the bench may have
 pub record IsBenchCount (count : ℕ) : Type 0 where
   pub some : 1 ≤ count
@@ -59,5 +68,5 @@ pub record IsBenchCount (count : ℕ) : Type 0 where
 -- each statement has its text
 abbrev pub HasTexts : Work → Type 0
 HasTexts (Statements wish tables blocks) = AreAnswerable tables blocks
-HasTexts (Queries tables queries) = All (FitsQuery tables) queries
+HasTexts (Queries tables queries) = AreExecutable tables queries
 HasTexts (Bench count) = IsBenchCount count

@@ -1,14 +1,13 @@
 //! The answers of SQL queries.
-ghost use Rattle.std.specs.Prelude.{◌≡◌, All, IfOk, OnOk, IsErrOf};
+ghost use Rattle.std.specs.Prelude.{◌≡◌, IfOk, OnOk, IsErrOf};
 ghost use Rattle.std.specs.Io.KnownBytes.{Appends, Keeps};
 ghost use Rattle.std.specs.List.{flat_map};
 ghost use Rattle.prefsql_io.specs.Counts.{HasCause};
 ghost use Rattle.prefsql_io.specs.Streams.{AppendsLess};
 ghost use Rattle.query_meaning.specs.Answers.{answer_of};
-ghost use Rattle.sql_tree.specs.Fits.{FitsTables};
 ghost use Rattle.table_csv.specs.AnswerText.{text_of_answer};
 ghost use Rattle.prefsql_session.specs.Run.{GetsFront};
-ghost use Rattle.prefsql_session.specs.Texts.{IsAnswerable, query_text};
+ghost use Rattle.prefsql_session.specs.Texts.{AreExecutable, IsAnswerable, IsExecutable, query_text};
 
 use crate::halt::Halt;
 use prefsql_io::{Sink, write_all};
@@ -36,7 +35,7 @@ pub(crate) fn executed(alloc: Global, tables: &TableSet, block: &Block) -> Resul
 
 // The answer of an SQL query.
 fn query_text(alloc: Global, tables: &TableSet, query: &SqlQuery) -> Result<Vec<u8>, Memory>
-    requires { FitsTables tables.now query.now }
+    requires { IsExecutable tables.now query.now }
     ensures { IfOk result (λ text. text.items ≡ query_text tables.now query.now) }
 {
     let answer = execute(alloc, query, tables)?;
@@ -50,7 +49,7 @@ fn write_query<O: Sink>(
     query: &SqlQuery,
     out: &mut O,
 ) -> Result<(), Halt>
-    requires { FitsTables tables.now query.now }
+    requires { IsExecutable tables.now query.now }
     ensures all { OnOk result (Appends (O.written out.old) (O.written out.new) (query_text tables.now query.now)) }
     ensures less { IsErrOf result Halt.WriteFault
         → AppendsLess (O.written out.old) (O.written out.new) (query_text tables.now query.now) }
@@ -70,7 +69,7 @@ pub(crate) fn write_queries<O: Sink>(
     queries: &[SqlQuery],
     out: &mut O,
 ) -> Result<(), Halt>
-    requires { All (FitsTables tables.now) queries.now }
+    requires { AreExecutable tables.now queries.now }
     ensures all { OnOk result (Appends (O.written out.old) (O.written out.new)
         (flat_map (query_text tables.now) queries.now)) }
     ensures less { IsErrOf result Halt.WriteFault → AppendsLess (O.written out.old) (O.written out.new)

@@ -1,11 +1,10 @@
 //! The script of a run: what it asks for over the tables.
-ghost use Rattle.std.specs.Prelude.{◌≡◌, ◌<◌, ◌≤◌, Some, All, IfOk, OnOk, IsErr, IsErrOf, length};
+ghost use Rattle.std.specs.Prelude.{◌≡◌, ◌<◌, ◌≤◌, Some, IfOk, OnOk, IsErr, IsErrOf, length};
 ghost use Rattle.std.specs.Io.KnownBytes.{IsAtEnd};
 ghost use Rattle.prefsql_io.specs.Counts.{HasCause};
 ghost use Rattle.prefsql_session.specs.Parts.{Asks, Ends, IsOfTask, Reading, Reads};
-ghost use Rattle.sql_tree.specs.Fits.{FitsTables};
 ghost use Rattle.prefsql_session.specs.ScriptEnd.{script_limit};
-ghost use Rattle.prefsql_session.specs.Texts.{AreAnswerable, HasTexts};
+ghost use Rattle.prefsql_session.specs.Texts.{AreAnswerable, AreExecutable, HasTexts};
 
 use crate::Task;
 use crate::fault::{Fault, Stop};
@@ -71,8 +70,9 @@ fn queries(alloc: Global, text: &[u8], tables: &TableSet) -> Result<List<Block>,
 fn sql_queries(alloc: Global, text: &[u8], tables: &TableSet) -> Result<List<SqlQuery>, Stop>
     requires { length text.now ≤ 268435456 }
     ensures reads { Reading tables.now text.now result }
-    ensures fits { IfOk result (All (FitsTables tables.now)) }
+    ensures executable { IfOk result (AreExecutable tables.now) }
 {
+    tables.keeps_limits();
     read_queries_law();
     Ok(read_sql(alloc, text, tables)?)
 }
