@@ -1,4 +1,5 @@
 pub mod Bounded
+pub mod Chosen
 pub mod Exact
 pub mod ExactParts
 pub mod Executed
