@@ -1,10 +1,11 @@
 -- Going from one choice to the next goes through the product.
-use Rattle.std.proofs.Common.{◌≡◌, ℕ, zero, suc, ◌+◌, ◌<◌, ◌≤◌, ◌≢◌, List, [], ◌∷◌, ◌++◌, length, get_or, set, drop, map, arith, refl, sym, ap, ◌∙◌, subst, add-one}
+use Rattle.std.proofs.Common.{◌≡◌, Option, Some, None, ℕ, zero, suc, ◌+◌, ◌<◌, ◌≤◌, ◌≢◌, List, [], ◌∷◌, ◌++◌, length, get_or, set, drop, map, arith, refl, sym, ap, ◌∙◌, subst, add-one}
 use Rattle.std.specs.List.{flat_map}
 use Rattle.std.proofs.Math.Seq.{drop-cons}
 use Rattle.std.proofs.lemmas.List.{drop_all, length-set}
 use Rattle.prefsql_tables.specs.Product.{product}
-use Rattle.sql_exec.specs.Choices.{behind, IsPlaced}
+use Rattle.sql_exec.specs.declared.choices.Choice.{Choice}
+use Rattle.sql_exec.specs.Choices.{behind, due, IsPlaced}
 
 -- an element that was put at a place, and each of the others, has the property
 pub at_set : {X : Type 0} (P : ℕ → X → Type 0) (xs : List X) (d : X) (i : ℕ) (v : X) → i < length xs → P i v
@@ -165,3 +166,12 @@ module _ {X : Type 0} where
       ∙ left_last i lists row places (subst (λ (p : ℕ). length (get_or lists i []) ≤ p + 1) at_place last)
       ∙ sym (left_set i lists row places v 0)
       ∙ sym (λ j. left i lists (to_row j) (to_places j))
+
+-- behind one that is due, one fewer is
+pub one_fewer : {X : Type 0} (x : X) (all rest : List X) → all ≡ x ∷ rest → length rest < length all
+one_fewer x all rest are = omega (arith, ap length are)
+
+-- where there is no choice, nothing is due
+pub none_due : (next : Option Choice) → ((choice : Choice) → next ≡ Some choice → ⊥) → due next ≡ []
+none_due None none = refl
+none_due (Some choice) none = absurd (none choice refl)

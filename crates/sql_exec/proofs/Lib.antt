@@ -7,7 +7,6 @@ pub mod Fitted
 pub mod Gathered
 pub mod JudgedReads
 pub mod Named
-pub mod Nested
 pub mod Once
 pub mod Prepared
 pub mod ReadyReads

@@ -14,7 +14,7 @@ use std::alloc::Global;
 pub(crate) struct Choice<'t> {
     items: &'t [List<AnswerRow>],
     places: Vec<usize>,
-    rows: Vec<&'t AnswerRow>,
+    pub(crate) rows: Vec<&'t AnswerRow>,
 }
 
 /// The first choice, which has the first row of each item. There is none where an item has no row.
