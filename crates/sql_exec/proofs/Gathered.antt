@@ -1,49 +1,34 @@
--- The rows of the scopes that a search keeps, item by item.
-use Rattle.std.proofs.Common.{◌≡◌, ℕ, suc, ◌+◌, ◌<◌, length, get_or, drop, arith, sym, Bool, true, false, List, [], ◌∷◌, ◌++◌, map, cond, refl, ap, ◌∙◌, append_assoc}
-use Rattle.std.specs.List.{flat_map}
-use Rattle.std.proofs.Math.Seq.{drop-cons}
-use Rattle.prefsql_values.specs.Truth.{is_true}
+-- The rows of the scopes that a search keeps, choice by choice.
+use Rattle.std.proofs.Common.{◌≡◌, Bool, true, false, List, [], ◌∷◌, ◌++◌, map, cond, refl, sym, ap, ◌∙◌, append_assoc}
+use Rattle.std.specs.List.{filter}
 use Rattle.prefsql_tables.specs.declared.table.AnswerRow.{AnswerRow}
-use Rattle.prefsql_tables.proofs.ProductLemmas.{map-flat_map}
+use Rattle.prefsql_tables.specs.Product.{product}
 use Rattle.sql_tree.specs.Meaning.{Scope, Scopes}
-use Rattle.sql_exec.specs.declared.ready.ReadyCond.{ReadyCond}
 use Rattle.sql_exec.specs.declared.ready.ReadyScalar.{ReadyScalar}
-use Rattle.sql_exec.specs.declared.ready.ReadySearch.{ReadySearch, Each, Test}
-use Rattle.sql_exec.specs.Ready.{truth, kept, row_of}
-use Rattle.sql_exec.proofs.ReadyReads.{kept-Each, kept-Test}
+use Rattle.sql_exec.specs.declared.ready.ReadySearch.{ReadySearch}
+use Rattle.sql_exec.specs.Ready.{keeps, kept, row_of}
+use Rattle.sql_exec.proofs.ReadyReads.{kept_is}
 
-pub gathered-Each : (items : List ReadyScalar) (each : List AnswerRow) (below : ReadySearch) (own : Scope) (scopes : Scopes)
-    → map (λ scope. row_of items (scope ∷ scopes)) (kept (Each each below) own scopes) ≡ flat_map (λ next. map (λ scope. row_of items (scope ∷ scopes)) (kept below (own ++ next ∷ []) scopes)) each
-gathered-Each items each below own scopes =
-    ap (map (λ scope. row_of items (scope ∷ scopes))) (kept-Each each below own scopes)
-    ∙ map-flat_map (λ scope. row_of items (scope ∷ scopes)) (λ next. kept below (own ++ next ∷ []) scopes) each
+-- the rows of the choices that the condition keeps
+pub gathered_is : (items : List ReadyScalar) (found : ReadySearch) (scopes : Scopes) (choices : List Scope) → choices ≡ product found.items
+    → map (λ scope. row_of items (scope ∷ scopes)) (kept found scopes) ≡ map (λ scope. row_of items (scope ∷ scopes)) (filter (λ scope. keeps found.test (scope ∷ scopes)) choices)
+gathered_is items found scopes choices are =
+    ap (map (λ scope. row_of items (scope ∷ scopes))) (kept_is found scopes ∙ ap (filter (λ scope. keeps found.test (scope ∷ scopes))) (sym are))
 
-single : (items : List ReadyScalar) (own : Scope) (scopes : Scopes) (b : Bool)
-    → map (λ scope. row_of items (scope ∷ scopes)) (cond b (own ∷ []) []) ≡ cond b (row_of items (own ∷ scopes) ∷ []) []
-single items own scopes true = refl
-single items own scopes false = refl
+module _ {X Y : Type 0} (K : X → Bool) (f : X → Y) where
+  -- the next of what is due gives its row, where it is kept
+  mapped_next : (x : X) (rest : List X) → map f (filter K (x ∷ rest)) ≡ cond (K x) (f x ∷ []) [] ++ map f (filter K rest)
+  mapped_next x rest = go (K x)
+    where
+      go : (b : Bool) → map f (cond b (x ∷ filter K rest) (filter K rest)) ≡ cond b (f x ∷ []) [] ++ map f (filter K rest)
+      go true = refl
+      go false = refl
 
-pub gathered-Test : (items : List ReadyScalar) (test : ReadyCond) (own : Scope) (scopes : Scopes)
-    → map (λ scope. row_of items (scope ∷ scopes)) (kept (Test test) own scopes) ≡ cond (is_true (truth test (own ∷ scopes))) (row_of items (own ∷ scopes) ∷ []) []
-gathered-Test items test own scopes = ap (map (λ scope. row_of items (scope ∷ scopes))) (kept-Test test own scopes) ∙ single items own scopes _
-
-pub gathered_kept : (items : List ReadyScalar) (test : ReadyCond) (own : Scope) (scopes : Scopes) → is_true (truth test (own ∷ scopes)) ≡ true
-    → map (λ scope. row_of items (scope ∷ scopes)) (kept (Test test) own scopes) ≡ row_of items (own ∷ scopes) ∷ []
-gathered_kept items test own scopes is = gathered-Test items test own scopes ∙ ap (λ b. cond b (row_of items (own ∷ scopes) ∷ []) []) is
-
-pub gathered_not : (items : List ReadyScalar) (test : ReadyCond) (own : Scope) (scopes : Scopes) → is_true (truth test (own ∷ scopes)) ≡ false
-    → map (λ scope. row_of items (scope ∷ scopes)) (kept (Test test) own scopes) ≡ []
-gathered_not items test own scopes is = gathered-Test items test own scopes ∙ ap (λ b. cond b (row_of items (own ∷ scopes) ∷ []) []) is
-
--- one row of an item more
-pub gathered_next : {X Y : Type 0} (f : X → List Y) (xs : List X) (i : ℕ) (d x : X) (start so_far more : List Y) → i < length xs → x ≡ get_or xs i d
-    → start ++ flat_map f xs ≡ so_far ++ flat_map f (drop i xs) → more ≡ so_far ++ f x → start ++ flat_map f xs ≡ more ++ flat_map f (drop (i + 1) xs)
-gathered_next f xs i d x start so_far more within is before after =
-    before
-    ∙ ap (λ rest. so_far ++ flat_map f rest) (drop-cons xs i d within)
-    ∙ ap (λ y. so_far ++ (f y ++ flat_map f (drop (suc i) xs))) (sym is)
-    ∙ sym (append_assoc so_far (f x) (flat_map f (drop (suc i) xs)))
-    ∙ ap (λ front. front ++ flat_map f (drop (suc i) xs)) (sym after)
-    ∙ ap (λ n. more ++ flat_map f (drop n xs)) (let e : suc i ≡ i + 1 = omega arith in e)
-
-pub ruleset gathered_reads = (gathered_kept, gathered_not)
+  pub gathered_next : (whole so_far more : List Y) (x : X) (all rest : List X) → whole ≡ so_far ++ map f (filter K all) → all ≡ x ∷ rest → more ≡ so_far ++ cond (K x) (f x ∷ []) []
+      → whole ≡ more ++ map f (filter K rest)
+  gathered_next whole so_far more x all rest before are after =
+      before
+      ∙ ap (λ due. so_far ++ map f (filter K due)) are
+      ∙ ap (λ due. so_far ++ due) (mapped_next x rest)
+      ∙ sym (append_assoc so_far (cond (K x) (f x ∷ []) []) (map f (filter K rest)))
+      ∙ ap (λ front. front ++ map f (filter K rest)) (sym after)

@@ -1,4 +1,5 @@
 pub mod Bounded
+pub mod Chosen
 pub mod Exact
 pub mod ExactParts
 pub mod Executed
@@ -6,7 +7,6 @@ pub mod Fitted
 pub mod Gathered
 pub mod JudgedReads
 pub mod Named
-pub mod Nested
 pub mod Once
 pub mod Prepared
 pub mod ReadyReads

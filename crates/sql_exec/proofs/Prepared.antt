@@ -30,11 +30,10 @@ use Rattle.sql_exec.specs.Wrapping.{truth_in, value_in, rows_in, from_rows, sour
 use Rattle.sql_exec.proofs.WrappingReads.{truth_in-And, truth_in-Or, truth_in-Not, truth_in-Compare, truth_in-Between, truth_in-OneOf, truth_in-IsNull, truth_in-Exists, value_in-Column, value_in-Number, value_in-Chars, value_in-Sum, value_in-Case, when_value_is, term_value_is, item_value_is, rows_in_is, from_rows_is, source_rows-Table, source_rows-Derived}
 use Rattle.sql_exec.specs.declared.ready.ReadyCond.{ReadyCond, And, Or, Not, Compare, Between, OneOf, IsNull, Exists}
 use Rattle.sql_exec.specs.declared.ready.ReadyScalar.{ReadyScalar, Column, Constant, Negative, Sum, Case}
-use Rattle.sql_exec.specs.declared.ready.ReadySearch.{ReadySearch, Test}
+use Rattle.sql_exec.specs.declared.ready.ReadySearch.{ReadySearch}
 use Rattle.sql_exec.specs.declared.ready.ReadyWhen.{ReadyWhen}
 use Rattle.sql_exec.specs.Preparing.{rows_selected, scopes_kept}
-use Rattle.sql_exec.specs.Ready.{keeps, kept, nested, row_of, truth, value, when_value}
-use Rattle.sql_exec.proofs.Nested.{kept_all}
+use Rattle.sql_exec.specs.Ready.{keeps, kept, row_of, truth, value, when_value}
 use Rattle.sql_exec.proofs.ReadyReads as ready
 
 -- the same for all scopes
@@ -96,7 +95,7 @@ module _ (tables : Tables) where
       ∙ any_once (out-SqlQuery query).distinct (rows_selected tables query scopes)
       ∙ list_any-map (λ _. true) (λ scope. let row : AnswerRow = record { cells = map (λ item. item_value tables item (scope ∷ scopes)) (out-SqlQuery query).items } in row) (scopes_kept tables query scopes)
 
-  pub ready_Exists : (whole : SqlCond) (query : SqlQuery) (found : ReadySearch) → whole ≡ cond_of.Exists query → kept found [] ≡ scopes_kept tables query → truth (Exists found) ≡ truth_in tables whole
+  pub ready_Exists : (whole : SqlCond) (query : SqlQuery) (found : ReadySearch) → whole ≡ cond_of.Exists query → kept found ≡ scopes_kept tables query → truth (Exists found) ≡ truth_in tables whole
   ready_Exists whole query found is same = everywhere _ _ (λ scopes.
       ready.truth-Exists found scopes ∙ (λ j. truth_of (list_any (λ _. true) (same j scopes)))
       ∙ ap truth_of (sym (any_row query scopes))
@@ -143,13 +142,13 @@ module _ (tables : Tables) where
   pub ready_some : (source : SqlCond) (made : ReadyCond) → truth made ≡ truth_in tables source → keeps made ≡ is_kept (option_map (truth_in tables) (Some source))
   ready_some source made same = λ j scopes. is_true (same j scopes)
 
-  pub ready_query : (query : SqlQuery) (items : List (List AnswerRow)) (test : ReadyCond) → items ≡ map (from_rows tables) (out-SqlQuery query).from
-      → keeps test ≡ is_kept (option_map (truth_in tables) (out-SqlQuery query).filter) → kept (nested items (Test test)) [] ≡ scopes_kept tables query
-  ready_query query items test same tested = everywhere _ _ (λ scopes.
-      kept_all items test scopes ∙ (λ j. filter (λ scope. tested j (scope ∷ scopes)) (product (same j))))
+  pub ready_query : (query : SqlQuery) (found : ReadySearch) → found.items ≡ map (from_rows tables) (out-SqlQuery query).from
+      → keeps found.test ≡ is_kept (option_map (truth_in tables) (out-SqlQuery query).filter) → kept found ≡ scopes_kept tables query
+  ready_query query found same tested = everywhere _ _ (λ scopes.
+      ready.kept_is found scopes ∙ (λ j. filter (λ scope. tested j (scope ∷ scopes)) (product (same j))))
 
-  pub ready_rows : (query : SqlQuery) (found : ReadySearch) (items : List ReadyScalar) → kept found [] ≡ scopes_kept tables query → map value items ≡ map (item_value tables) (out-SqlQuery query).items
-      → map (λ scope. row_of items (scope ∷ [])) (kept found [] []) ≡ rows_selected tables query []
+  pub ready_rows : (query : SqlQuery) (found : ReadySearch) (items : List ReadyScalar) → kept found ≡ scopes_kept tables query → map value items ≡ map (item_value tables) (out-SqlQuery query).items
+      → map (λ scope. row_of items (scope ∷ [])) (kept found []) ≡ rows_selected tables query []
   ready_rows query found items same shown =
       λ j. map (λ scope. let row : AnswerRow = record { cells = map_at value (item_value tables) items (out-SqlQuery query).items (scope ∷ []) shown j } in row) (same j [])
 

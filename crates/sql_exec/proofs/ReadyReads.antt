@@ -1,18 +1,18 @@
 -- The meaning of each part of a query that was made ready, by the meaning of the parts below it.
-use Rattle.std.proofs.Common.{◌≡◌, Bool, true, Some, None, List, [], ◌∷◌, ◌++◌, map, cond, rules}
-use Rattle.std.specs.List.{flat_map, list_any}
+use Rattle.std.proofs.Common.{◌≡◌, Bool, true, Some, None, List, ◌∷◌, map, cond, rules}
+use Rattle.std.specs.List.{filter, list_any}
 use Rattle.std.proofs.lemmas.Simd.{map-map}
 use Rattle.prefsql_values.specs.declared.value.Value.{Value}
 use Rattle.prefsql_values.specs.declared.value.CompareOp.{CompareOp}
 use Rattle.prefsql_values.specs.Truth.{negated, negated_if, all_true, any_true, is_true}
 use Rattle.prefsql_values.specs.Value.{comparison, between, one_of, is_null, truth_of}
-use Rattle.prefsql_tables.specs.declared.table.AnswerRow.{AnswerRow}
+use Rattle.prefsql_tables.specs.Product.{product}
 use Rattle.sql_tree.specs.declared.tree.SqlPlace.{SqlPlace}
-use Rattle.sql_tree.specs.Meaning.{Scope, Scopes, place_value, or_else, first_some}
+use Rattle.sql_tree.specs.Meaning.{Scopes, place_value, or_else, first_some}
 use Rattle.sql_exec.specs.declared.ready.ReadyCond.{ReadyCond, And, Or, Not, Compare, Between, OneOf, IsNull, Exists}
 use Rattle.sql_exec.specs.declared.ready.ReadyCond.TheFolds.{the_lemmas}
 use Rattle.sql_exec.specs.declared.ready.ReadyScalar.{ReadyScalar, Column, Constant, Negative, Sum, Case}
-use Rattle.sql_exec.specs.declared.ready.ReadySearch.{ReadySearch, Each, Test}
+use Rattle.sql_exec.specs.declared.ready.ReadySearch.{ReadySearch}
 use Rattle.sql_exec.specs.declared.ready.ReadyWhen.{ReadyWhen}
 use Rattle.sql_exec.specs.Ready.{truth, value, kept, when_value}
 use Rattle.sql_exec.specs.Wrapping.{wrapped_sign, wrapped_sum}
@@ -45,7 +45,7 @@ pub truth-IsNull : (negate : Bool) (a : ReadyScalar) (scopes : Scopes) → truth
 unfolding truth value kept when_value
 truth-IsNull negate a scopes = search (rules, the_lemmas)
 
-pub truth-Exists : (found : ReadySearch) (scopes : Scopes) → truth (Exists found) scopes ≡ truth_of (list_any (λ _. true) (kept found [] scopes))
+pub truth-Exists : (found : ReadySearch) (scopes : Scopes) → truth (Exists found) scopes ≡ truth_of (list_any (λ _. true) (kept found scopes))
 unfolding truth value kept when_value
 truth-Exists found scopes = search (rules, the_lemmas)
 
@@ -73,12 +73,8 @@ pub when_value_is : (when : ReadyWhen) (scopes : Scopes) → when_value when sco
 unfolding truth value kept when_value
 when_value_is when scopes = search (rules, the_lemmas)
 
-pub kept-Each : (rows : List AnswerRow) (below : ReadySearch) (own : Scope) (scopes : Scopes) → kept (Each rows below) own scopes ≡ flat_map (λ row. kept below (own ++ row ∷ []) scopes) rows
+pub kept_is : (found : ReadySearch) (scopes : Scopes) → kept found scopes ≡ filter (λ scope. is_true (truth found.test (scope ∷ scopes))) (product found.items)
 unfolding truth value kept when_value
-kept-Each rows below own scopes = search (rules, the_lemmas)
+kept_is found scopes = search (rules, the_lemmas)
 
-pub kept-Test : (test : ReadyCond) (own : Scope) (scopes : Scopes) → kept (Test test) own scopes ≡ cond (is_true (truth test (own ∷ scopes))) (own ∷ []) []
-unfolding truth value kept when_value
-kept-Test test own scopes = search (rules, the_lemmas)
-
-pub ruleset ready_reads = (truth-And, truth-Or, truth-Not, truth-Compare, truth-Between, truth-OneOf, truth-IsNull, truth-Exists, value-Column, value-Constant, value-Negative, value-Sum, value-Case, when_value_is, kept-Each, kept-Test)
+pub ruleset ready_reads = (truth-And, truth-Or, truth-Not, truth-Compare, truth-Between, truth-OneOf, truth-IsNull, truth-Exists, value-Column, value-Constant, value-Negative, value-Sum, value-Case, when_value_is, kept_is)

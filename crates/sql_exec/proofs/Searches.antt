@@ -1,39 +1,37 @@
 -- Searches, item by item, and choices.
-use Rattle.std.proofs.Common.{◌≡◌, Bool, true, false, ◌||◌, Option, List, [], ◌∷◌, ◌++◌, map, cond, refl, sym, ap, ◌∙◌}
-use Rattle.std.specs.List.{flat_map, list_any}
-use Rattle.std.proofs.lemmas.List.Folds.{list_any-append}
+use Rattle.std.proofs.Common.{◌≡◌, Bool, true, false, ◌||◌, Option, List, [], ◌∷◌, map, cond, refl, sym, ap, ◌∙◌}
+use Rattle.std.specs.List.{filter, list_any}
 use Rattle.prefsql_values.specs.declared.value.Value.{Value}
-use Rattle.prefsql_values.specs.Truth.{is_true}
-use Rattle.prefsql_tables.specs.declared.table.AnswerRow.{AnswerRow}
+use Rattle.prefsql_tables.specs.Product.{product}
 use Rattle.sql_tree.specs.Meaning.{Scope, Scopes, or_else, first_some}
-use Rattle.sql_exec.specs.declared.ready.ReadyCond.{ReadyCond}
 use Rattle.sql_exec.specs.declared.ready.ReadyScalar.{ReadyScalar, Case}
-use Rattle.sql_exec.specs.declared.ready.ReadySearch.{ReadySearch, Each, Test}
+use Rattle.sql_exec.specs.declared.ready.ReadySearch.{ReadySearch}
 use Rattle.sql_exec.specs.declared.ready.ReadyWhen.{ReadyWhen}
-use Rattle.sql_exec.specs.Ready.{truth, value, kept, when_value}
-use Rattle.sql_exec.proofs.ReadyReads.{kept-Each, kept-Test, value-Case}
+use Rattle.sql_exec.specs.Ready.{keeps, kept, value, when_value}
+use Rattle.sql_exec.proofs.ReadyReads.{kept_is, value-Case}
 
-abbrev any_of : {X : Type 0} → List X → Bool
-any_of = list_any (λ _. true)
+module _ {X : Type 0} where
+  any_of_filter : (K : X → Bool) (xs : List X) → list_any (λ _. true) (filter K xs) ≡ list_any K xs
+  any_of_filter K [] = refl
+  any_of_filter K (x ∷ xs) = go (K x) ∙ ap (λ b. K x || b) (any_of_filter K xs)
+    where
+      go : (b : Bool) → list_any (λ _. true) (cond b (x ∷ filter K xs) (filter K xs)) ≡ b || list_any (λ _. true) (filter K xs)
+      go true = refl
+      go false = refl
 
-any-flat_map : {X Y : Type 0} (f : X → List Y) (xs : List X) → list_any (λ _. true) (flat_map f xs) ≡ list_any (λ x. list_any (λ _. true) (f x)) xs
-any-flat_map f [] = refl
-any-flat_map f (x ∷ xs) = list_any-append (λ _. true) (f x) (flat_map f xs) ∙ ap (λ b. list_any (λ _. true) (f x) || b) (any-flat_map f xs)
+-- a search finds a scope where the condition keeps a choice
+pub found_is : (found : ReadySearch) (scopes : Scopes) (choices : List Scope) → choices ≡ product found.items
+    → list_any (λ _. true) (kept found scopes) ≡ list_any (λ scope. keeps found.test (scope ∷ scopes)) choices
+found_is found scopes choices are =
+    ap (list_any (λ _. true)) (kept_is found scopes) ∙ any_of_filter (λ scope. keeps found.test (scope ∷ scopes)) (product found.items)
+    ∙ ap (list_any (λ scope. keeps found.test (scope ∷ scopes))) (sym are)
 
--- one of the rows of an item has a scope behind it
-pub found-Each : (rows : List AnswerRow) (below : ReadySearch) (own : Scope) (scopes : Scopes)
-    → list_any (λ _. true) (kept (Each rows below) own scopes) ≡ list_any (λ row. list_any (λ _. true) (kept below (own ++ row ∷ []) scopes)) rows
-found-Each rows below own scopes =
-    ap (list_any (λ _. true)) (kept-Each rows below own scopes) ∙ any-flat_map (λ row. kept below (own ++ row ∷ []) scopes) rows
+-- the next of what is due decides, or what is due behind it
+pub any_here : {X : Type 0} (K : X → Bool) (x : X) (all rest : List X) → all ≡ x ∷ rest → true ≡ K x → true ≡ list_any K all
+any_here K x all rest are is = ap (λ b. b || list_any K rest) is ∙ sym (ap (list_any K) are)
 
-any_single : {X : Type 0} (x : X) (b : Bool) → list_any (λ _. true) (cond b (x ∷ []) []) ≡ b
-any_single x true = refl
-any_single x false = refl
-
-pub found-Test : (test : ReadyCond) (own : Scope) (scopes : Scopes) → list_any (λ _. true) (kept (Test test) own scopes) ≡ is_true (truth test (own ∷ scopes))
-found-Test test own scopes = ap (list_any (λ _. true)) (kept-Test test own scopes) ∙ any_single own _
-
-pub ruleset search_reads = (found-Each, found-Test)
+pub any_behind : {X : Type 0} (K : X → Bool) (x : X) (all rest : List X) → all ≡ x ∷ rest → false ≡ K x → list_any K all ≡ list_any K rest
+any_behind K x all rest are is = ap (list_any K) are ∙ sym (ap (λ b. b || list_any K rest) is)
 
 -- a choice where a WHEN is True, and where none is
 pub chosen : (scalar : ReadyScalar) (whens : List ReadyWhen) (last : ReadyScalar) (scopes : Scopes) (found : Option Value)

@@ -1,3 +1,4 @@
+pub mod Choices
 pub mod Preparing
 pub mod Ready
 pub mod RowKeys

@@ -1,27 +1,25 @@
 -- What the parts of a query mean once each FROM item is the rows that it has. Which rows a part
 -- sees is as for SQL queries: those of the query that it stands in, and of the queries round it.
 -- Sums and signs are taken in the range of a 128-bit number.
-use Rattle.std.specs.Prelude.{Bool, true, if◌then◌else◌, Option, Some, None, List, [], ◌∷◌, ◌++◌, map}
-use Rattle.std.specs.List.{flat_map, list_any}
+use Rattle.std.specs.Prelude.{Bool, true, if◌then◌else◌, Option, Some, None, List, ◌∷◌, map}
+use Rattle.std.specs.List.{filter, list_any}
 use Rattle.prefsql_values.specs.declared.truth.Truth.{Truth}
 use Rattle.prefsql_values.specs.declared.value.Value.{Value}
 use Rattle.prefsql_values.specs.Truth.{negated, negated_if, all_true, any_true, is_true}
 use Rattle.prefsql_values.specs.Value.{comparison, between, one_of, truth_of, is_null}
 use Rattle.prefsql_tables.specs.declared.table.AnswerRow.{AnswerRow}
+use Rattle.prefsql_tables.specs.Product.{product}
 use Rattle.sql_tree.specs.Meaning.{Scope, Scopes, place_value, or_else, first_some}
 use Rattle.sql_exec.specs.declared.ready.ReadyCond.{ReadyCond, fold-ReadyCond}
 use Rattle.sql_exec.specs.declared.ready.ReadyCond.TheOpen.{ReadyCond-F, ReadyScalar-F, ReadySearch-F, ReadyWhen-F}
 use Rattle.sql_exec.specs.declared.ready.ReadyScalar.{ReadyScalar, fold-ReadyScalar}
-use Rattle.sql_exec.specs.declared.ready.ReadySearch.{ReadySearch, Each, fold-ReadySearch}
+use Rattle.sql_exec.specs.declared.ready.ReadySearch.{ReadySearch, fold-ReadySearch}
 use Rattle.sql_exec.specs.declared.ready.ReadyWhen.{ReadyWhen, fold-ReadyWhen}
 use Rattle.sql_exec.specs.Wrapping.{wrapped_sign, wrapped_sum}
 
--- the scopes that a search keeps, each of which begins with these rows
-abbrev pub SearchMeaning : Type 0
-SearchMeaning = Scope → Scopes → List Scope
-
+-- a search means the scopes that it keeps
 abbrev pub Level : (Type 0 → Type 0 → Type 0 → Type 0 → Type 0) → Type 0
-Level F = F (Scopes → Truth) (Scopes → Value) SearchMeaning (Scopes → Option Value)
+Level F = F (Scopes → Truth) (Scopes → Value) (Scopes → List Scope) (Scopes → Option Value)
 
 abbrev pub cond_step : Level ReadyCond-F → Scopes → Truth
 cond_step (ReadyCond-F.And parts) scopes = all_true (map (λ part. part scopes) parts)
@@ -33,7 +31,7 @@ cond_step (ReadyCond-F.Between negate a low high) scopes =
 cond_step (ReadyCond-F.OneOf negate a list) scopes =
     negated_if negate (one_of (a scopes) (map (λ b. b scopes) list))
 cond_step (ReadyCond-F.IsNull negate a) scopes = negated_if negate (truth_of (is_null (a scopes)))
-cond_step (ReadyCond-F.Exists search) scopes = truth_of (list_any (λ _. true) (search [] scopes))
+cond_step (ReadyCond-F.Exists search) scopes = truth_of (list_any (λ _. true) (search scopes))
 
 abbrev pub scalar_step : Level ReadyScalar-F → Scopes → Value
 scalar_step (ReadyScalar-F.Column place) scopes = place_value scopes place
@@ -46,11 +44,9 @@ scalar_step (ReadyScalar-F.Case whens last) scopes =
 abbrev pub when_step : Level ReadyWhen-F → Scopes → Option Value
 when_step w scopes = if is_true (w.cond scopes) then Some (w.value scopes) else None
 
-abbrev pub search_step : Level ReadySearch-F → SearchMeaning
-search_step (ReadySearch-F.Each rows below) own scopes =
-    flat_map (λ row. below (own ++ row ∷ []) scopes) rows
-search_step (ReadySearch-F.Test test) own scopes =
-    if is_true (test (own ∷ scopes)) then own ∷ [] else []
+abbrev pub search_step : Level ReadySearch-F → Scopes → List Scope
+search_step search scopes =
+    filter (λ scope. is_true (search.test (scope ∷ scopes))) (product search.items)
 
 unfoldable pub truth : ReadyCond → Scopes → Truth
 truth = fold-ReadyCond _ _ _ _ cond_step scalar_step search_step when_step
@@ -58,7 +54,7 @@ truth = fold-ReadyCond _ _ _ _ cond_step scalar_step search_step when_step
 unfoldable pub value : ReadyScalar → Scopes → Value
 value = fold-ReadyScalar _ _ _ _ cond_step scalar_step search_step when_step
 
-unfoldable pub kept : ReadySearch → SearchMeaning
+unfoldable pub kept : ReadySearch → Scopes → List Scope
 kept = fold-ReadySearch _ _ _ _ cond_step scalar_step search_step when_step
 
 unfoldable pub when_value : ReadyWhen → Scopes → Option Value
@@ -71,8 +67,3 @@ row_of items scopes = record { cells = map (λ item. value item scopes) items }
 -- whether a condition keeps the rows that it sees
 abbrev pub keeps : ReadyCond → Scopes → Bool
 keeps cond scopes = is_true (truth cond scopes)
-
--- a search through the rows of more items first
-abbrev pub nested : List (List AnswerRow) → ReadySearch → ReadySearch
-nested [] search = search
-nested (rows ∷ items) search = Each rows (nested items search)

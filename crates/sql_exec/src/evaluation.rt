@@ -1,16 +1,17 @@
 //! The truth of a condition and the value of a scalar, for the rows that they see. Sums and signs are taken
 //! in the range of a 128-bit number. No number in a well-formed query is past 10^36, by its static bounds,
 //! so that none of them wraps.
-ghost use Rattle.std.specs.Prelude.{◌≡◌, true, map, IfOk, OnOk, [], ◌∷◌, ◌++◌};
+ghost use Rattle.std.specs.Prelude.{◌≡◌, true, map, IfOk};
 ghost use Rattle.std.specs.List.{list_any};
 ghost use Rattle.std.specs.Option.{option_map};
 ghost use Rattle.prefsql_values.specs.Truth.{all_true, any_true, is_true};
 ghost use Rattle.prefsql_values.specs.Value.{one_of, value_of};
 ghost use Rattle.sql_tree.specs.Meaning.{added, first_some};
 ghost use Rattle.sql_exec.specs.Ready.{kept, truth, value, when_value};
-ghost use Rattle.sql_exec.specs.Seen.{found_value, outer_seen, rows_seen, scopes_seen};
+ghost use Rattle.sql_exec.specs.Seen.{found_value, outer_seen, scopes_seen};
 ghost use Rattle.sql_exec.specs.Wrapping.{wrapped, wrapped_sign, wrapped_sum};
 
+use crate::choices::{first_choice, next_choice};
 use crate::ready::{ReadyCond, ReadyScalar, ReadySearch, ReadyWhen};
 use crate::scopes::{Scope, cell_at, entered};
 use prefsql_tables::AnswerRow;
@@ -243,66 +244,26 @@ fn exists<'t>(
     ensures { IfOk result (λ t. t ≡ truth (ReadyCond.Exists search.now) (scopes_seen own.now outer.now)) }
 {
     let scopes = entered(alloc, own, outer)?;
-    let mut rows = Vec::new(alloc);
-    Ok(truth_of(is_found(alloc, search, &mut rows, scopes.as_slice())?))
+    Ok(truth_of(is_found(alloc, search, scopes.as_slice())?))
 }
 
-/// Whether a search finds a scope that begins with these rows. It stops at the first one.
+/// Whether a search finds a scope. It stops at the first one.
 #[cycle(evaluation)]
-#[tactic(auto, using(crate::proofs::Searches::search_reads))]
 fn is_found<'t>(
     alloc: Global,
     search: &'t ReadySearch,
-    rows: &mut Vec<&'t AnswerRow>,
     outer: &[Scope<'t>],
 ) -> Result<bool, Memory>
-    ensures found { IfOk result (λ found. found ≡ list_any (λ _. true) (kept search.now (rows_seen rows.old.items) (outer_seen outer.now))) }
-    ensures rows { OnOk result (rows.new.items ≡ rows.old.items) }
+    ensures { IfOk result (λ found. found ≡ list_any (λ _. true) (kept search.now (outer_seen outer.now))) }
 {
-    match search {
-        ReadySearch::Each(items, below) => {
-            is_found_in(alloc, items.as_slice(), below.get(), rows, outer)
-        }
-        ReadySearch::Test(cond) => is_kept(alloc, cond, rows.as_slice(), outer),
-    }
-}
-
-/// Whether the search below finds a scope behind one of the rows of an item.
-#[cycle(evaluation)]
-fn is_found_in<'t>(
-    alloc: Global,
-    items: &'t [AnswerRow],
-    below: &'t ReadySearch,
-    rows: &mut Vec<&'t AnswerRow>,
-    outer: &[Scope<'t>],
-) -> Result<bool, Memory>
-    ensures found { IfOk result (λ found. found ≡ list_any (λ row. list_any (λ _. true) (kept below.now (rows_seen rows.old.items ++ row ∷ []) (outer_seen outer.now))) items.now) }
-    ensures rows { OnOk result (rows.new.items ≡ rows.old.items) }
-{
-    for item in items {
-        if is_found_behind(alloc, item, below, rows, outer)? {
+    let mut next = first_choice(alloc, search.items.as_slice())?;
+    while let Some(choice) = next {
+        if is_kept(alloc, &search.test, choice.rows.as_slice(), outer)? {
             return Ok(true);
         }
+        next = next_choice(choice);
     }
     Ok(false)
-}
-
-/// Whether the search below finds a scope behind this row of an item.
-#[cycle(evaluation)]
-fn is_found_behind<'t>(
-    alloc: Global,
-    item: &'t AnswerRow,
-    below: &'t ReadySearch,
-    rows: &mut Vec<&'t AnswerRow>,
-    outer: &[Scope<'t>],
-) -> Result<bool, Memory>
-    ensures found { IfOk result (λ found. found ≡ list_any (λ _. true) (kept below.now (rows_seen rows.old.items ++ item.now ∷ []) (outer_seen outer.now))) }
-    ensures rows { OnOk result (rows.new.items ≡ rows.old.items) }
-{
-    rows.push(item)?;
-    let found = is_found(alloc, below, rows, outer)?;
-    rows.pop();
-    Ok(found)
 }
 
 /// Whether a condition keeps a scope: it does so where it is True.

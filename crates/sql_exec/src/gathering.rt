@@ -1,9 +1,9 @@
 //! The rows that a query makes of the scopes that it keeps.
-ghost use Rattle.std.specs.Prelude.{◌≡◌, [], ◌∷◌, ◌++◌, map, IfOk, OnOk};
-ghost use Rattle.std.specs.List.{flat_map};
-ghost use Rattle.sql_exec.specs.Ready.{kept, row_of, value};
-ghost use Rattle.sql_exec.specs.Seen.{outer_seen, rows_seen, scopes_seen};
+ghost use Rattle.std.specs.Prelude.{◌≡◌, if◌then◌else◌, [], ◌∷◌, ◌++◌, map, IfOk, OnOk};
+ghost use Rattle.sql_exec.specs.Ready.{keeps, kept, row_of, value};
+ghost use Rattle.sql_exec.specs.Seen.{outer_seen, scopes_seen};
 
+use crate::choices::{first_choice, next_choice};
 use crate::evaluation::{is_kept, scalar_cell};
 use crate::ready::{ReadyCond, ReadyScalar, ReadySearch};
 use crate::scopes::Scope;
@@ -11,69 +11,25 @@ use prefsql_tables::AnswerRow;
 use prefsql_values::{List, Memory};
 use std::alloc::Global;
 
-/// Adds the row of each scope that the search keeps and that begins with the rows of `own`.
-#[cycle(gathering)]
+/// The row of each scope that the search keeps.
 pub(crate) fn gather<'t>(
     alloc: Global,
     search: &'t ReadySearch,
     items: &'t [ReadyScalar],
-    own: &mut Vec<&'t AnswerRow>,
     outer: &[Scope<'t>],
-    rows: &mut List<AnswerRow>,
-) -> Result<(), Memory>
-    ensures rows { OnOk result (rows.new ≡ rows.old ++ map (λ scope. row_of items.now (scope ∷ outer_seen outer.now)) (kept search.now (rows_seen own.old.items) (outer_seen outer.now))) }
-    ensures own { OnOk result (own.new.items ≡ own.old.items) }
+) -> Result<List<AnswerRow>, Memory>
+    ensures { IfOk result (λ rows. rows ≡ map (λ scope. row_of items.now (scope ∷ outer_seen outer.now)) (kept search.now (outer_seen outer.now))) }
 {
-    match search {
-        ReadySearch::Each(each, below) => {
-            gather_each(alloc, each.as_slice(), below.get(), items, own, outer, rows)
-        }
-        ReadySearch::Test(cond) => add_row(alloc, cond, items, own.as_slice(), outer, rows),
+    let mut rows = List::new(alloc);
+    let mut next = first_choice(alloc, search.items.as_slice())?;
+    while let Some(choice) = next {
+        add_row(alloc, &search.test, items, choice.rows.as_slice(), outer, &mut rows)?;
+        next = next_choice(choice);
     }
-}
-
-/// Adds the rows of the scopes that have one of these rows next.
-#[cycle(gathering)]
-fn gather_each<'t>(
-    alloc: Global,
-    each: &'t [AnswerRow],
-    below: &'t ReadySearch,
-    items: &'t [ReadyScalar],
-    own: &mut Vec<&'t AnswerRow>,
-    outer: &[Scope<'t>],
-    rows: &mut List<AnswerRow>,
-) -> Result<(), Memory>
-    ensures rows { OnOk result (rows.new ≡ rows.old ++ flat_map (λ next. map (λ scope. row_of items.now (scope ∷ outer_seen outer.now)) (kept below.now (rows_seen own.old.items ++ next ∷ []) (outer_seen outer.now))) each.now) }
-    ensures own { OnOk result (own.new.items ≡ own.old.items) }
-{
-    for next in each {
-        gather_behind(alloc, next, below, items, own, outer, rows)?;
-    }
-    Ok(())
-}
-
-/// Adds the rows of the scopes that have this row next.
-#[cycle(gathering)]
-fn gather_behind<'t>(
-    alloc: Global,
-    next: &'t AnswerRow,
-    below: &'t ReadySearch,
-    items: &'t [ReadyScalar],
-    own: &mut Vec<&'t AnswerRow>,
-    outer: &[Scope<'t>],
-    rows: &mut List<AnswerRow>,
-) -> Result<(), Memory>
-    ensures rows { OnOk result (rows.new ≡ rows.old ++ map (λ scope. row_of items.now (scope ∷ outer_seen outer.now)) (kept below.now (rows_seen own.old.items ++ next.now ∷ []) (outer_seen outer.now))) }
-    ensures own { OnOk result (own.new.items ≡ own.old.items) }
-{
-    own.push(next)?;
-    gather(alloc, below, items, own, outer, rows)?;
-    own.pop();
-    Ok(())
+    Ok(rows)
 }
 
 /// Adds the row of a scope, where the condition keeps it.
-#[tactic(auto, using(crate::proofs::Gathered::gathered_reads))]
 fn add_row<'t>(
     alloc: Global,
     cond: &'t ReadyCond,
@@ -82,7 +38,7 @@ fn add_row<'t>(
     outer: &[Scope<'t>],
     rows: &mut List<AnswerRow>,
 ) -> Result<(), Memory>
-    ensures { OnOk result (rows.new ≡ rows.old ++ map (λ scope. row_of items.now (scope ∷ outer_seen outer.now)) (kept (ReadySearch.Test cond.now) (rows_seen own.now) (outer_seen outer.now))) }
+    ensures { OnOk result (rows.new ≡ rows.old ++ (if keeps cond.now (scopes_seen own.now outer.now) then row_of items.now (scopes_seen own.now outer.now) ∷ [] else [])) }
 {
     if is_kept(alloc, cond, own, outer)? {
         let row = projected(alloc, items, own, outer)?;

@@ -1,6 +1,7 @@
 //! Runs SQL queries over a set of tables, under three-valued logic (ISO/IEC 9075:1992).
 #![tactic(auto)]
 
+mod choices;
 mod distinct;
 mod evaluation;
 mod executing;

@@ -7,7 +7,7 @@ ghost use Rattle.prefsql_tables.specs.Table.{rows_of};
 ghost use Rattle.sql_tree.specs.Fits.{FitsTables, IsTableOf, cond_tables, from_tables, if_written, item_tables, scalar_tables, term_tables, when_tables};
 ghost use Rattle.sql_tree.specs.Meaning.{Scopes, else_value, is_kept};
 ghost use Rattle.sql_exec.specs.Preparing.{rows_selected, scopes_kept};
-ghost use Rattle.sql_exec.specs.Ready.{keeps, kept, nested, row_of, truth, value, when_value};
+ghost use Rattle.sql_exec.specs.Ready.{keeps, kept, row_of, truth, value, when_value};
 ghost use Rattle.sql_exec.specs.Wrapping.{from_rows, item_value, rows_in, source_rows, term_value, truth_in, value_in, when_value as sql_when_value};
 
 use crate::distinct::once;
@@ -285,28 +285,11 @@ fn stored_rows(
 #[cycle(preparing)]
 fn ready_search(alloc: Global, query: &SqlQuery, tables: &TableSet) -> Result<ReadySearch, Memory>
     requires { FitsTables tables.now query.now }
-    ensures { IfOk result (λ ready. kept ready [] ≡ scopes_kept tables.now query.now) }
+    ensures { IfOk result (λ ready. kept ready ≡ scopes_kept tables.now query.now) }
 {
     let test = ready_filter(alloc, &query.filter, tables)?;
-    let all = all_rows(alloc, query.from.as_slice(), tables)?;
-    let search = nested(alloc, all.into_vec(), test)?;
-    Ok(search)
-}
-
-/// The search that goes through the rows of each item, and then asks the condition.
-fn nested(
-    alloc: Global,
-    items: Vec<List<AnswerRow>>,
-    test: ReadyCond,
-) -> Result<ReadySearch, Memory>
-    ensures { IfOk result (λ search. search ≡ nested items.items (ReadySearch.Test test)) }
-{
-    let mut items = items;
-    let mut search = ReadySearch::Test(test);
-    while let Some(rows) = items.pop() {
-        search = ReadySearch::Each(rows, Boxed::new(alloc, search)?);
-    }
-    Ok(search)
+    let items = all_rows(alloc, query.from.as_slice(), tables)?;
+    Ok(ReadySearch { items, test })
 }
 
 /// The rows of a query that no rows stand round, before DISTINCT.
@@ -330,13 +313,10 @@ fn shown(
     search: &ReadySearch,
     items: &[ReadyScalar],
 ) -> Result<List<AnswerRow>, Memory>
-    ensures { IfOk result (λ rows. rows ≡ map (λ scope. row_of items.now (scope ∷ [])) (kept search.now [] [])) }
+    ensures { IfOk result (λ rows. rows ≡ map (λ scope. row_of items.now (scope ∷ [])) (kept search.now [])) }
 {
     let outer = Vec::new(alloc);
-    let mut own = Vec::new(alloc);
-    let mut rows = List::new(alloc);
-    gather(alloc, search, items, &mut own, outer.as_slice(), &mut rows)?;
-    Ok(rows)
+    gather(alloc, search, items, outer.as_slice())
 }
 
 /// The rows of a query that no rows stand round.

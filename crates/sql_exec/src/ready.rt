@@ -42,12 +42,10 @@ pub(crate) struct ReadyWhen {
     pub(crate) value: ReadyScalar,
 }
 
-/// A FROM and its WHERE made ready: one row of each item in turn, and then the test of the scope.
+/// A FROM and its WHERE made ready: the rows of each item, and the condition that keeps a scope.
 #[cycle(ready)]
 #[derive(Drop)]
-pub(crate) enum ReadySearch {
-    /// Each of the rows of an item, and for each of them the items behind it.
-    Each(List<AnswerRow>, Boxed<ReadySearch>),
-    /// The condition that keeps a scope.
-    Test(ReadyCond),
+pub(crate) struct ReadySearch {
+    pub(crate) items: List<List<AnswerRow>>,
+    pub(crate) test: ReadyCond,
 }

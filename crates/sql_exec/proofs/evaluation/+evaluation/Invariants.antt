@@ -1,11 +1,12 @@
-use Rattle.std.proofs.Common.{◌≡◌, ◌++◌, [], ◌∷◌, true, pos, map, drop}
+use Rattle.std.proofs.Common.{◌≡◌, ◌∷◌, true, pos, map, drop, length, IfSome}
 use Rattle.std.specs.List.{list_any}
 use Rattle.prefsql_values.specs.Truth.{both_true, either_true, all_true, any_true}
 use Rattle.prefsql_values.specs.Value.{one_of, value_of}
 use Rattle.prefsql_values.specs.declared.value.Value.TheVariants.{Num}
 use Rattle.sql_tree.specs.Meaning.{added, first_some, sum_of}
-use Rattle.sql_exec.specs.Ready.{kept, truth, value, when_value}
-use Rattle.sql_exec.specs.Seen.{outer_seen, rows_seen, scopes_seen}
+use Rattle.sql_exec.specs.Choices.{IsChoice, due}
+use Rattle.sql_exec.specs.Ready.{keeps, kept, truth, value, when_value}
+use Rattle.sql_exec.specs.Seen.{outer_seen, scopes_seen}
 use Rattle.sql_exec.specs.Wrapping.{wrapped, wrapped_sum}
 use Rattle.sql_exec.proofs.evaluation.+evaluation.Given as goal
 
@@ -34,10 +35,11 @@ invariant-is_one_of-loop-item l =
     let values = map (λ b. value b (scopes_seen l.own l.outer)) in
     one_of (value_of l.cell) (values l.list) ≡ either_true l.so_far (one_of (value_of l.cell) (values (drop l.item-index l.list)))
 
-abbrev pub invariant-is_found_in-loop-item : goal.invariant-is_found_in-loop-item
-invariant-is_found_in-loop-item l = record {
-  rows : l.rows.items ≡ l.fn.rows.items;
-  found :
-      let found = list_any (λ row. list_any (λ _. true) (kept l.below (rows_seen l.fn.rows.items ++ row ∷ []) (outer_seen l.outer))) in
-      found l.items ≡ found (drop l.item-index l.items);
+abbrev pub invariant-is_found-loop-next : goal.invariant-is_found-loop-next
+invariant-is_found-loop-next l = record {
+  choice : IfSome l.next IsChoice;
+  found : list_any (λ _. true) (kept l.search (outer_seen l.outer)) ≡ list_any (λ scope. keeps l.search.test (scope ∷ outer_seen l.outer)) (due l.next);
 }
+
+abbrev pub decreases-is_found-loop-next : goal.decreases-is_found-loop-next
+decreases-is_found-loop-next l = length (due l.next)

@@ -81,7 +81,7 @@ ready_cond-returns-in_ok-a-in-IsNull t c =
 pub ready_cond-returns-in_ok-new-in-Exists : goal.ready_cond-returns-in_ok-new-in-Exists
 ready_cond-returns-in_ok-new-in-Exists t c =
     made.ready_Exists c.args.tables.now c.args.cond.now c.in-Exists.query c.in_ok-new-in-Exists.field-0 c.in-Exists.is
-    (ap (λ (found : ReadySearch). kept found []) c.in_ok-new-in-Exists.ensures ∙ c.in_ok-search-in-Exists.ensures ∙ ap (λ (query : SqlQuery). scopes_kept c.args.tables.now query) c.get-in-Exists.ensures)
+    (ap (λ (found : ReadySearch). kept found) c.in_ok-new-in-Exists.ensures ∙ c.in_ok-search-in-Exists.ensures ∙ ap (λ (query : SqlQuery). scopes_kept c.args.tables.now query) c.get-in-Exists.ensures)
 
 pub ready_else-returns-in-None : goal.ready_else-returns-in-None
 ready_else-returns-in-None t c =
@@ -120,9 +120,8 @@ ready_scalar-returns-in_ok-new-in-Case t c =
 
 pub ready_search-returns : goal.ready_search-returns
 ready_search-returns t c =
-    ap (λ (found : ReadySearch). kept found []) c.in_ok-search.ensures
-    ∙ made.ready_query c.args.tables.now c.args.query.now c.into_vec.result.items c.in_ok-test.test
-    (c.into_vec.ensures ∙ c.in_ok-all.ensures ∙ ap (map (from_rows c.args.tables.now)) c.as_slice.ensures) c.in_ok-test.ensures
+    made.ready_query c.args.tables.now c.args.query.now _
+    (c.in_ok-items.ensures ∙ ap (map (from_rows c.args.tables.now)) c.as_slice.ensures) c.in_ok-test.ensures
 
 pub ready_term-returns-in_ok-new : goal.ready_term-returns-in_ok-new
 ready_term-returns-in_ok-new t c =
@@ -138,7 +137,7 @@ pub rows_selected-returns : goal.rows_selected-returns
 rows_selected-returns t c =
     let P : List AnswerRow → Type 0 = λ all. IfOk c.shown.result (λ rows. rows ≡ all) in
     subst P
-    (ap (λ (items : List ReadyScalar). map (λ scope. row_of items (scope ∷ [])) (kept c.in_ok-search.search [] [])) c.as_slice-2.ensures
+    (ap (λ (items : List ReadyScalar). map (λ scope. row_of items (scope ∷ [])) (kept c.in_ok-search.search [])) c.as_slice-2.ensures
     ∙ made.ready_rows c.args.tables.now c.args.query.now c.in_ok-search.search c.in_ok-items.items c.in_ok-search.ensures
     (c.in_ok-items.ensures ∙ ap (map (item_value c.args.tables.now)) c.as_slice.ensures))
     c.shown.ensures
