@@ -96,8 +96,8 @@ module _ {X : Type 0} where
   pub risen : (d : X) (i : ℕ) (lists : List (List X)) (row : List X) (places : List ℕ) → i < length lists → IsPlaced lists row places → HasFirst d (suc i) lists row places
       → get_or places i 0 + 1 < length (get_or lists i [])
       → left (suc i) lists row places
-        ≡ set row i (get_or (get_or lists i []) (get_or places i 0 + 1) d)
-          ∷ behind lists (set row i (get_or (get_or lists i []) (get_or places i 0 + 1) d)) (set places i (get_or places i 0 + 1))
+      ≡ set row i (get_or (get_or lists i []) (get_or places i 0 + 1) d)
+      ∷ behind lists (set row i (get_or (get_or lists i []) (get_or places i 0 + 1) d)) (set places i (get_or places i 0 + 1))
   risen d i [] row places there is has more = absurd (omega (arith, there))
   risen d i (xs ∷ lists) [] places there is has more = absurd (omega (arith, is.row_count))
   risen d i (xs ∷ lists) (x ∷ row) [] there is has more = absurd (omega (arith, is.place_count))

@@ -249,11 +249,7 @@ fn exists<'t>(
 
 /// Whether a search finds a scope. It stops at the first one.
 #[cycle(evaluation)]
-fn is_found<'t>(
-    alloc: Global,
-    search: &'t ReadySearch,
-    outer: &[Scope<'t>],
-) -> Result<bool, Memory>
+fn is_found<'t>(alloc: Global, search: &'t ReadySearch, outer: &[Scope<'t>]) -> Result<bool, Memory>
     ensures { IfOk result (λ found. found ≡ list_any (λ _. true) (kept search.now (outer_seen outer.now))) }
 {
     let mut next = first_choice(alloc, search.items.as_slice())?;

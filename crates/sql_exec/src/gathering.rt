@@ -23,7 +23,14 @@ pub(crate) fn gather<'t>(
     let mut rows = List::new(alloc);
     let mut next = first_choice(alloc, search.items.as_slice())?;
     while let Some(choice) = next {
-        add_row(alloc, &search.test, items, choice.rows.as_slice(), outer, &mut rows)?;
+        add_row(
+            alloc,
+            &search.test,
+            items,
+            choice.rows.as_slice(),
+            outer,
+            &mut rows,
+        )?;
         next = next_choice(choice);
     }
     Ok(rows)

@@ -61,7 +61,7 @@ loop-item-preserved c =
     let last : length (get_or lists i []) ≤ c.index-place.result.now + 1 = subst (λ (rows : List AnswerRow). length rows ≤ c.index-place.result.now + 1) rows_are c.in-None.ensures.none in
     let before : c.loop-item.item ≡ i + 1 = omega arith in
     let to_row : scope_of new ≡ set row i (get_or (get_or lists i []) 0 no_row) =
-        c.choose-in-None.ensures.rows ∙ ap (λ (all : List (List AnswerRow)). set row i (get_or (get_or all i []) 0 no_row)) c.loop-item.invariant.items in
+    c.choose-in-None.ensures.rows ∙ ap (λ (all : List (List AnswerRow)). set row i (get_or (get_or all i []) 0 no_row)) c.loop-item.invariant.items in
     let to_places = c.choose-in-None.ensures.places in
     record {
       items = ap (λ (b : Bor (List (List AnswerRow))). b.now) c.choose-in-None.ensures.items ∙ c.loop-item.invariant.items;
