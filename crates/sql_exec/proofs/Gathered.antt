@@ -1,7 +1,6 @@
 -- The rows of the scopes that a search keeps, choice by choice.
 use Rattle.std.proofs.Common.{◌≡◌, Bool, true, false, List, [], ◌∷◌, ◌++◌, map, cond, refl, sym, ap, ◌∙◌, append_assoc}
 use Rattle.std.specs.List.{filter}
-use Rattle.prefsql_tables.specs.declared.table.AnswerRow.{AnswerRow}
 use Rattle.prefsql_tables.specs.Product.{product}
 use Rattle.sql_tree.specs.Meaning.{Scope, Scopes}
 use Rattle.sql_exec.specs.declared.ready.ReadyScalar.{ReadyScalar}

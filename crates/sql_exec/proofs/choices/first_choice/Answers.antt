@@ -1,4 +1,4 @@
-use Rattle.std.proofs.Common.{◌≡◌, ◌<◌, None, List, [], ◌∷◌, length, slice_get, arith, rules, refl, sym, ◌∙◌}
+use Rattle.std.proofs.Common.{◌≡◌, None, List, [], ◌∷◌, slice_get, arith, rules, refl, sym, ◌∙◌}
 use Rattle.std.proofs.lemmas.List.{get_or_read}
 use Rattle.prefsql_tables.specs.Table.{no_row}
 use Rattle.sql_exec.specs.Seen.{rows_seen}

@@ -1,4 +1,4 @@
-use Rattle.std.proofs.Common.{◌≡◌, Bool, Bor, Option, List, [], ◌∷◌, ◌++◌, IfSome, map, cond, sym, ap, ◌∙◌, subst, append-nil}
+use Rattle.std.proofs.Common.{Bool, Bor, Option, List, [], ◌∷◌, ◌++◌, IfSome, map, cond, sym, ap, ◌∙◌, subst, append-nil}
 use Rattle.std.specs.List.{filter}
 use Rattle.prefsql_tables.specs.declared.table.AnswerRow.{AnswerRow}
 use Rattle.prefsql_tables.specs.Product.{product}
