@@ -1,19 +1,13 @@
 //! Tests over several crates: which base preferences are made, what is left of a term of them, the best of a list by one of
-//! them, what queries answer by their meaning, SQL texts, and the bench.
+//! them, and the bench.
 //! Nothing stands on this crate.
 #![tactic(auto)]
 
 #[cfg(test)]
-mod answers;
-#[cfg(test)]
 mod bench;
-#[cfg(test)]
-mod cars;
 #[cfg(test)]
 mod parts;
 #[cfg(test)]
 mod refusals;
-#[cfg(test)]
-mod sql;
 #[cfg(test)]
 mod window;
