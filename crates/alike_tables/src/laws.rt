@@ -9,9 +9,9 @@ ghost use Rattle.query_meaning.specs.declared.block.Block.{Block};
 ghost use Rattle.query_tree.specs.declared.query.QueryTree.{QueryTree};
 ghost use Rattle.query_typing.specs.Typing.{AreTyped, IsFirstOfScript};
 
-/// The law of alike tables: names in the same order and equal columns are all that fitting and typing
-/// ask of tables. A block fits both or none, and the statements of a script have the same blocks over
-/// both, or the same first fault.
+/// The law of alike tables: names in the same order and equal columns are all that fitting and
+/// typing ask of tables. A block fits both or none, and the statements of a script have the same
+/// blocks over both, or the same first fault.
 pub fn alike_tables_law()
     ensures fits { (tables others : Tables) (block : Block) → IsAlike tables others
         → FitsTables tables block → FitsTables others block }

@@ -1,5 +1,5 @@
-//! What is the same over two sets of tables that differ in their rows alone: which blocks fit them, and
-//! what the typing of a preference script gives.
+//! What is the same over two sets of tables that differ in their rows alone: which blocks fit them,
+//! and what the typing of a preference script gives.
 //!
 //! The crate has no code that runs, and one law.
 #![tactic(auto)]

@@ -1,6 +1,9 @@
 -- The ten kinds of base preferences: levels, distances, keys, and which value is better than which
--- (Kießling, Foundations of Preferences in Database Systems, VLDB 2002; LAYERED and the levels are this project's own).
-use Rattle.std.specs.Prelude.{◌≡◌, ℕ, ◌+◌, ◌<◌, ◌≤◌, ◌^◌, ℤ, pos, int_lt, ◌-ℤ◌, ◌<ℤ◌, neg_ℤ, Bool, true, false, ◌⊎◌, if◌then◌else◌, Option, Some, None, List, [], length, nat_lt, Contains}
+-- (Kießling, Foundations of Preferences in Database Systems, VLDB 2002; LAYERED and the levels are
+-- this project's own).
+use Rattle.std.specs.Prelude.{◌≡◌, ℕ, ◌+◌, ◌<◌, ◌≤◌, ◌^◌, ℤ, pos, int_lt, ◌-ℤ◌, ◌<ℤ◌, neg_ℤ, Bool}
+use Rattle.std.specs.Prelude.{true, false, ◌⊎◌, if◌then◌else◌, Option, Some, None, List, [], length}
+use Rattle.std.specs.Prelude.{nat_lt, Contains}
 use Rattle.std.specs.Ordering.{is_lt, is_eq, int_cmp, on}
 use Rattle.std.specs.declared.cmp.Ordering.{Ordering}
 use Rattle.std.specs.Int.RustNames.{unsigned_abs}
@@ -10,25 +13,30 @@ use Rattle.prefsql_values.specs.Value.{value_eq}
 use Rattle.base_prefs.specs.declared.edge.Edge.{Edge}
 use Rattle.base_prefs.specs.declared.edge.ValueSet.{ValueSet}
 use Rattle.base_prefs.specs.declared.kind.Kind.{Kind}
-use Rattle.base_prefs.specs.declared.kind.Kind.TheVariants.{Pos, Neg, PosPos, PosNeg, Layered, Explicit, Around, Between, Lowest, Highest}
+use Rattle.base_prefs.specs.declared.kind.Kind.TheVariants.{Pos, Neg, PosPos, PosNeg, Layered}
+use Rattle.base_prefs.specs.declared.kind.Kind.TheVariants.{Explicit, Around, Between, Lowest}
+use Rattle.base_prefs.specs.declared.kind.Kind.TheVariants.{Highest}
 use Rattle.base_prefs.specs.Graph.{IsAbove, graph_values, graph_level, explicit_better}
 use Rattle.base_prefs.specs.Sets.{set_of}
 use Rattle.base_prefs.specs.Values.{is_in}
 
 -- 1 in the first set, 2 in the second, else 3
 abbrev pub pos_pos_level : ValueSet → ValueSet → Value → ℕ
-pos_pos_level first second v = if is_in first.values v then 1 else (if is_in second.values v then 2 else 3)
+pos_pos_level first second v = if is_in first.values v then 1
+    else (if is_in second.values v then 2 else 3)
 
 -- 1 in the good set, 3 in the bad one, else 2
 abbrev pub pos_neg_level : ValueSet → ValueSet → Value → ℕ
 pos_neg_level good bad v = if is_in good.values v then 1 else (if is_in bad.values v then 3 else 2)
 
--- the number of the layer, from 1: OTHERS, where each value of no set belongs, stands between the sets before it and those after it
+-- the number of the layer, from 1: OTHERS, where each value of no set belongs, stands between the
+-- sets before it and those after it
 abbrev pub layer_of : List ValueSet → List ValueSet → Value → ℕ
 layer_of before after v =
     let first = set_of before v in
     let last = set_of after v in
-    if nat_lt first (length before) then first + 1 else (if nat_lt last (length after) then length before + last + 2 else length before + 1)
+    if nat_lt first (length before) then first + 1
+    else (if nat_lt last (length after) then length before + last + 2 else length before + 1)
 
 -- the level of a value, for the kinds that have one
 abbrev pub level_of : Kind → Value → Option ℕ
@@ -81,7 +89,8 @@ abbrev pub level_or_zero : Option ℕ → ℕ
 level_or_zero None = 0
 level_or_zero (Some n) = n
 
--- the key of a value: its level, its distance, the number for LOWEST or the negated number for HIGHEST
+-- the key of a value: its level, its distance, the number for LOWEST or the negated number for
+-- HIGHEST
 abbrev pub key_of : Kind → Value → ℤ
 key_of (Around center) v = distance_from center (number_of v)
 key_of (Between low up) v = distance_to low up (number_of v)
@@ -95,15 +104,19 @@ IsBetter (Pos s) y x = Contains s.values y × ¬ Contains s.values x
 IsBetter (Neg s) y x = Contains s.values x × ¬ Contains s.values y
 IsBetter (PosPos first second) y x = pos_pos_level first second y < pos_pos_level first second x
 IsBetter (PosNeg good bad) y x =
-    (Contains bad.values x × ¬ Contains bad.values y) ⊎ (¬ Contains bad.values x × ¬ Contains good.values x × Contains good.values y)
+    (Contains bad.values x × ¬ Contains bad.values y)
+    ⊎ (¬ Contains bad.values x × ¬ Contains good.values x × Contains good.values y)
 IsBetter (Layered before after) y x = layer_of before after y < layer_of before after x
-IsBetter (Explicit g) y x = IsAbove g.edges y x ⊎ (Contains (graph_values g.edges) y × ¬ Contains (graph_values g.edges) x)
-IsBetter (Around center) y x = distance_from center (number_of y) <ℤ distance_from center (number_of x)
+IsBetter (Explicit g) y x = IsAbove g.edges y x
+    ⊎ (Contains (graph_values g.edges) y × ¬ Contains (graph_values g.edges) x)
+IsBetter (Around center) y x =
+    distance_from center (number_of y) <ℤ distance_from center (number_of x)
 IsBetter (Between low up) y x = distance_to low up (number_of y) <ℤ distance_to low up (number_of x)
 IsBetter Lowest y x = number_of y <ℤ number_of x
 IsBetter Highest y x = number_of x <ℤ number_of y
 
--- what makes two values the same: with TRIVIAL that they are equal, else that their keys are (this project's own)
+-- what makes two values the same: with TRIVIAL that they are equal, else that their keys are (this
+-- project's own)
 abbrev pub IsSame : Kind → Bool → Value → Value → Type 0
 IsSame kind true x y = x ≡ y
 IsSame kind false x y = key_of kind x ≡ key_of kind y
@@ -127,7 +140,8 @@ edges_of kind = []
 
 -- whether the values are the same: with TRIVIAL where they are equal, else where their keys are
 abbrev pub same_of : Kind → Bool → Value → Value → Bool
-same_of kind trivial x y = if trivial then value_eq x y else is_eq (int_cmp (key_of kind x) (key_of kind y))
+same_of kind trivial x y = if trivial then value_eq x y
+    else is_eq (int_cmp (key_of kind x) (key_of kind y))
 
 -- how the keys of two values compare
 abbrev pub key_order : Kind → Value → Value → Ordering

@@ -6,7 +6,8 @@ use Rattle.base_prefs.specs.declared.edge.ValueSet.{ValueSet}
 use Rattle.base_prefs.specs.declared.kind.Kind.{Kind}
 use Rattle.base_prefs.specs.declared.kind.Kind.TheVariants.{Explicit}
 use Rattle.base_prefs.specs.declared.fault.BaseFault.{BaseFault}
-use Rattle.base_prefs.specs.declared.fault.BaseFault.TheVariants.{TooManyValues, Overlap, Cycle, LowAboveUp, Memory}
+use Rattle.base_prefs.specs.declared.fault.BaseFault.TheVariants.{TooManyValues, Overlap, Cycle}
+use Rattle.base_prefs.specs.declared.fault.BaseFault.TheVariants.{LowAboveUp, Memory}
 use Rattle.base_prefs.specs.Graph.{graph_values, IsAbove}
 use Rattle.base_prefs.specs.Sets.{written, HasOverlap}
 
@@ -19,7 +20,8 @@ IsSetOutcome s (Err Cycle) = ⊥
 IsSetOutcome s (Err LowAboveUp) = ⊥
 IsSetOutcome s (Err Memory) = ⊤
 
--- more than 256 values are written in all the sets together, else two sets share a value, else the preference
+-- more than 256 values are written in all the sets together, else two sets share a value, else the
+-- preference
 abbrev pub IsSetsOutcome : {X : Type 0} → List ValueSet → Result X BaseFault → Type 0
 IsSetsOutcome sets (Ok made) = (length (written sets) ≤ 256) × ¬ HasOverlap sets
 IsSetsOutcome sets (Err TooManyValues) = 256 < length (written sets)

@@ -28,13 +28,15 @@ pub enum Kind {
 
 /// A base preference (Kießling, VLDB 2002): a strict order of the values of one column.
 ///
-/// `pos`, `neg`, `pos_pos`, `pos_neg`, `layered`, `explicit`, `around`, `between`, `lowest` and `highest` make one.
+/// `pos`, `neg`, `pos_pos`, `pos_neg`, `layered`, `explicit`, `around`, `between`, `lowest` and
+/// `highest` make one.
 #[derive(Debug, Drop)]
 pub struct BasePref {
     stored: Stored,
 }
 
-/// Where a kind stands: alone where it names no values, else shared among the copies of the preference.
+/// Where a kind stands: alone where it names no values, else shared among the copies of the
+/// preference.
 #[derive(Debug, Drop)]
 enum Stored {
     Alone(Kind),
@@ -104,18 +106,20 @@ impl BasePref {
         }
     }
 
-    /// Every base preference keeps these limits: its values can be written in a script, its sets are not empty and share
-    /// none, each value stands in a set once, and there are at most 256 of them, or 16 in a graph. A law, with no effect.
+    /// Every base preference keeps these limits: its values can be written in a script, its sets
+    /// are not empty and share none, each value stands in a set once, and there are at most 256 of
+    /// them, or 16 in a graph. A law, with no effect.
     pub fn keeps_limits(&self)
         ensures { IsSound self.now }
     {
         let _kind = self.kind();
     }
 
-    /// The level of a value, from 1 for the best ones; None for AROUND, BETWEEN, LOWEST and HIGHEST, which have none.
+    /// The level of a value, from 1 for the best ones; None for AROUND, BETWEEN, LOWEST and
+    /// HIGHEST, which have none.
     ///
-    /// Needs a cell that is not NULL, and at those four kinds a number in plus and minus 10^36. The levels are this
-    /// project's own.
+    /// Needs a cell that is not NULL, and at those four kinds a number in plus and minus 10^36. The
+    /// levels are this project's own.
     pub fn level(&self, cell: Cell<'_>) -> Option<u32>
         requires { IsJudged self.now (value_of cell) }
         ensures level { result ≡ level_of self.now (value_of cell.entry) }
@@ -161,10 +165,11 @@ impl BasePref {
         }
     }
 
-    /// How far a value is from the center of AROUND, or from the bounds of BETWEEN: 0 inside them. None for all other
-    /// kinds.
+    /// How far a value is from the center of AROUND, or from the bounds of BETWEEN: 0 inside them.
+    /// None for all other kinds.
     ///
-    /// Needs a cell that is not NULL, and at AROUND, BETWEEN, LOWEST and HIGHEST a number in plus and minus 10^36.
+    /// Needs a cell that is not NULL, and at AROUND, BETWEEN, LOWEST and HIGHEST a number in plus
+    /// and minus 10^36.
     pub fn distance(&self, cell: Cell<'_>) -> Option<i128>
         requires { IsJudged self.now (value_of cell) }
         ensures distance { result ≡ distance_of self.now (value_of cell.entry) }

@@ -65,7 +65,8 @@ pub fn has_edge(
     requires placed { places.now ≡ map (placed values.now) edges.now }
     requires upper_there { upper < length values.now }
     requires lower_there { lower < length values.now }
-    ensures { result ≡ has_edge edges.now (slice_index_or values.now upper Null) (slice_index_or values.now lower Null) }
+    ensures { result ≡ has_edge edges.now (slice_index_or values.now upper Null)
+        (slice_index_or values.now lower Null) }
 {
     let _edges = edges;
     let _values = values;

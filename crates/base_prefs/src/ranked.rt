@@ -8,8 +8,8 @@ use prefsql_values::{Steps, Value, not_distinct};
 use std::cmp::Ordering;
 use std::sync::ledger::Ledger;
 
-/// A base preference as a preference of values: a test is one step. With `trivial` the same values are the equal ones, else
-/// those of equal keys (substitutable values, this project's own).
+/// A base preference as a preference of values: a test is one step. With `trivial` the same values
+/// are the equal ones, else those of equal keys (substitutable values, this project's own).
 ///
 /// It judges the values that `level` does; an EXPLICIT one needs `trivial`.
 #[derive(Clone, Copy)]

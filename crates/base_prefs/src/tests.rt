@@ -159,7 +159,8 @@ fn distances_from_the_bounds(rt: HostRuntime) -> Result<(), Fail> {
     Ok(())
 }
 
-// Whether the first value is better, whether the second is, whether they are the same, and how their keys compare.
+// Whether the first value is better, whether the second is, whether they are the same, and how
+// their keys compare.
 fn ranked<L: Ledger>(
     pref: Ranked<'_>,
     first: &Value,

@@ -8,8 +8,8 @@ use prefsql_values::Value;
 
 /// The kind of a base preference and its arguments, borrowed.
 ///
-/// A set has each value once, at its first place. `Explicit` has the values of the graph in the order of their first
-/// writing; which of them is above which, `graph_better` tells.
+/// A set has each value once, at its first place. `Explicit` has the values of the graph in the
+/// order of their first writing; which of them is above which, `graph_better` tells.
 #[derive(Clone, Copy, Debug)]
 pub enum BaseView<'a> {
     Pos(&'a [Value]),
@@ -59,8 +59,8 @@ impl BasePref {
         }
     }
 
-    /// Whether a path of at least one edge leads from the value at the place `upper` of the view's list down to that at the
-    /// place `lower`.
+    /// Whether a path of at least one edge leads from the value at the place `upper` of the view's
+    /// list down to that at the place `lower`.
     ///
     /// Needs an EXPLICIT preference, and both places within that list.
     pub fn graph_better(&self, upper: usize, lower: usize) -> bool

@@ -57,7 +57,8 @@ impl ConditionReader {
 
     #[tactic(auto, unfolding(query_grammar::specs::Scalars::scalar, query_grammar::specs::Scalars::level, query_grammar::specs::Scalars::distance))]
     fn scalar(self, tokens: &mut Cursor<'_>) -> Result<ScalarTree, Stop>
-        ensures { Reads (outcome self.depth (scalars.scalar self.qualities) tokens.old) result tokens.new }
+        ensures { Reads (outcome self.depth (scalars.scalar self.qualities) tokens.old) result
+            tokens.new }
     {
         if self.qualities {
             if tokens.at_word(Keyword::Level) {
@@ -72,7 +73,8 @@ impl ConditionReader {
 
     #[tactic(auto, unfolding(query_grammar::specs::Scalars::scalars))]
     fn scalars(self, tokens: &mut Cursor<'_>) -> Result<List<ScalarTree>, Stop>
-        ensures { Reads (outcome self.depth (scalars.scalars self.qualities) tokens.old) result tokens.new }
+        ensures { Reads (outcome self.depth (scalars.scalars self.qualities) tokens.old) result
+            tokens.new }
     {
         let mut found = pushed(List::new(self.alloc), self.scalar(tokens))?;
         'more: while tokens.eat_symbol(Symbol::Comma) {
@@ -82,7 +84,8 @@ impl ConditionReader {
     }
 
     fn scalars_in_parens(self, tokens: &mut Cursor<'_>) -> Result<List<ScalarTree>, Stop>
-        ensures { Reads (outcome self.depth (forms.in_parens (scalars.scalars self.qualities)) tokens.old) result tokens.new }
+        ensures { Reads (outcome self.depth (forms.in_parens (scalars.scalars self.qualities))
+            tokens.old) result tokens.new }
     {
         tokens.symbol(Symbol::LeftParen)?;
         let scalars = self.scalars(tokens)?;
@@ -97,7 +100,9 @@ impl ConditionReader {
         negated: bool,
         left: ScalarTree,
     ) -> Result<CondTree, Stop>
-        ensures { Reads (with_value (λ h. h negated left) (outcome self.depth (scalars.between self.qualities) tokens.old)) result tokens.new }
+        ensures { Reads (with_value
+            (λ h. h negated left) (outcome self.depth (scalars.between self.qualities) tokens.old))
+            result tokens.new }
     {
         let (left, _) = both(left, tokens.word(Keyword::Between))?;
         let (left, low) = both(left, self.scalar(tokens))?;
@@ -113,7 +118,9 @@ impl ConditionReader {
         negated: bool,
         left: ScalarTree,
     ) -> Result<CondTree, Stop>
-        ensures { Reads (with_value (λ h. h negated left) (outcome self.depth (scalars.member self.qualities) tokens.old)) result tokens.new }
+        ensures { Reads (with_value
+            (λ h. h negated left) (outcome self.depth (scalars.member self.qualities) tokens.old))
+            result tokens.new }
     {
         let (left, _) = both(left, tokens.word(Keyword::In))?;
         let (left, items) = both(left, self.scalars_in_parens(tokens))?;
@@ -122,7 +129,8 @@ impl ConditionReader {
 
     #[tactic(auto, unfolding(query_grammar::specs::Scalars::null_test, token_forms::specs::Phrases::negation))]
     fn null_test(self, tokens: &mut Cursor<'_>, left: ScalarTree) -> Result<CondTree, Stop>
-        ensures { Reads (with_value (λ h. h left) (outcome self.depth scalars.null_test tokens.old)) result tokens.new }
+        ensures { Reads (with_value
+            (λ h. h left) (outcome self.depth scalars.null_test tokens.old)) result tokens.new }
     {
         let (left, _) = both(left, tokens.word(Keyword::Is))?;
         let negated = tokens.negation();
@@ -132,7 +140,9 @@ impl ConditionReader {
 
     #[tactic(auto, unfolding(query_grammar::specs::Scalars::comparison), using(query_grammar::proofs::Plain::plain_op))]
     fn comparison(self, tokens: &mut Cursor<'_>, left: ScalarTree) -> Result<CondTree, Stop>
-        ensures { Reads (with_value (λ h. h left) (outcome self.depth (scalars.comparison self.qualities) tokens.old)) result tokens.new }
+        ensures { Reads (with_value
+            (λ h. h left) (outcome self.depth (scalars.comparison self.qualities) tokens.old))
+            result tokens.new }
     {
         let (left, op) = both(left, tokens.operator())?;
         let (left, right) = both(left, self.scalar(tokens))?;
@@ -141,7 +151,9 @@ impl ConditionReader {
 
     #[tactic(auto, unfolding(query_grammar::specs::ReadConditions::negatable, query_grammar::specs::Scalars::between), using(query_grammar::proofs::Plain::plain_negation, token_forms::proofs::Values::value_twice))]
     fn negatable(self, tokens: &mut Cursor<'_>, left: ScalarTree) -> Result<CondTree, Stop>
-        ensures { Reads (with_value (λ h. h left) (outcome self.depth (conditions.negatable self.qualities) tokens.old)) result tokens.new }
+        ensures { Reads (with_value
+            (λ h. h left) (outcome self.depth (conditions.negatable self.qualities) tokens.old))
+            result tokens.new }
     {
         let negated = tokens.negation();
         if tokens.at_word(Keyword::Between) {
@@ -153,7 +165,9 @@ impl ConditionReader {
 
     #[tactic(auto, unfolding(query_grammar::specs::ReadConditions::rest_form, query_grammar::specs::Scalars::null_test, query_grammar::specs::ReadConditions::negatable, token_forms::specs::Phrases::negation, query_grammar::specs::Scalars::between, query_grammar::specs::Scalars::member), using(grammar_forms::proofs::Sets::begins_more))]
     fn rest(self, tokens: &mut Cursor<'_>, left: ScalarTree) -> Result<CondTree, Stop>
-        ensures { Reads (with_value (λ h. h left) (outcome self.depth (conditions.rest_form self.qualities) tokens.old)) result tokens.new }
+        ensures { Reads (with_value
+            (λ h. h left) (outcome self.depth (conditions.rest_form self.qualities) tokens.old))
+            result tokens.new }
     {
         if tokens.at_word(Keyword::Is) {
             return self.null_test(tokens, left);
@@ -170,7 +184,8 @@ impl ConditionReader {
     /// A condition in parentheses.
     #[cycle(condition)]
     fn nested_condition(self, tokens: &mut Cursor<'_>) -> Result<CondTree, Stop>
-        ensures { Reads (nested self.depth (condition_rule self.qualities) tokens.old) result tokens.new }
+        ensures { Reads (nested self.depth (condition_rule self.qualities) tokens.old) result
+            tokens.new }
     {
         if self.depth == 0 {
             return Err(Stop::Fault);
@@ -186,7 +201,8 @@ impl ConditionReader {
     #[tactic(auto, unfolding(query_grammar::specs::ReadConditions::plain_test), using(token_forms::proofs::Values::value_twice))]
     #[cycle(condition)]
     fn plain_test(self, tokens: &mut Cursor<'_>) -> Result<CondTree, Stop>
-        ensures { Reads (outcome self.depth (conditions.plain_test self.qualities) tokens.old) result tokens.new }
+        ensures { Reads (outcome self.depth (conditions.plain_test self.qualities) tokens.old)
+            result tokens.new }
     {
         if tokens.eat_symbol(Symbol::LeftParen) {
             let inner = self.nested_condition(tokens)?;
@@ -200,7 +216,8 @@ impl ConditionReader {
     #[tactic(auto, unfolding(token_forms::specs::Columns::column, query_grammar::specs::ReadConditions::test_form))]
     #[cycle(condition)]
     fn test(self, tokens: &mut Cursor<'_>) -> Result<CondTree, Stop>
-        ensures { Reads (outcome self.depth (conditions.test_form self.qualities) tokens.old) result tokens.new }
+        ensures { Reads (outcome self.depth (conditions.test_form self.qualities) tokens.old) result
+            tokens.new }
     {
         if self.qualities && tokens.eat_word(Keyword::Top) {
             return Ok(CondTree::Top(tokens.column_in_parens()?));
@@ -211,7 +228,8 @@ impl ConditionReader {
     #[tactic(auto, unfolding(query_grammar::specs::ReadConditions::negated), using(query_grammar::proofs::Plain::plain_negation))]
     #[cycle(condition)]
     fn negated(self, tokens: &mut Cursor<'_>) -> Result<CondTree, Stop>
-        ensures { Reads (outcome self.depth (conditions.negated self.qualities) tokens.old) result tokens.new }
+        ensures { Reads (outcome self.depth (conditions.negated self.qualities) tokens.old) result
+            tokens.new }
     {
         let negated = tokens.negation();
         let test = self.test(tokens)?;
@@ -225,7 +243,8 @@ impl ConditionReader {
     #[tactic(auto, unfolding(query_grammar::specs::ReadConditions::conjuncts))]
     #[cycle(condition)]
     fn conjuncts(self, tokens: &mut Cursor<'_>) -> Result<List<CondTree>, Stop>
-        ensures { Reads (outcome self.depth (conditions.conjuncts self.qualities) tokens.old) result tokens.new }
+        ensures { Reads (outcome self.depth (conditions.conjuncts self.qualities) tokens.old) result
+            tokens.new }
     {
         let mut found = pushed(List::new(self.alloc), self.negated(tokens))?;
         'more: while tokens.eat_word(Keyword::And) {
@@ -237,7 +256,8 @@ impl ConditionReader {
     #[tactic(auto, unfolding(query_grammar::specs::ReadConditions::conjunction))]
     #[cycle(condition)]
     fn conjunction(self, tokens: &mut Cursor<'_>) -> Result<CondTree, Stop>
-        ensures { Reads (outcome self.depth (conditions.conjunction self.qualities) tokens.old) result tokens.new }
+        ensures { Reads (outcome self.depth (conditions.conjunction self.qualities) tokens.old)
+            result tokens.new }
     {
         Ok(conjoined(self.conjuncts(tokens)?))
     }
@@ -245,7 +265,8 @@ impl ConditionReader {
     #[tactic(auto, unfolding(query_grammar::specs::ReadConditions::disjuncts))]
     #[cycle(condition)]
     fn disjuncts(self, tokens: &mut Cursor<'_>) -> Result<List<CondTree>, Stop>
-        ensures { Reads (outcome self.depth (conditions.disjuncts self.qualities) tokens.old) result tokens.new }
+        ensures { Reads (outcome self.depth (conditions.disjuncts self.qualities) tokens.old) result
+            tokens.new }
     {
         let mut found = pushed(List::new(self.alloc), self.conjunction(tokens))?;
         'more: while tokens.eat_word(Keyword::Or) {
@@ -258,7 +279,8 @@ impl ConditionReader {
     #[tactic(auto, unfolding(query_grammar::specs::ReadConditions::condition))]
     #[cycle(condition)]
     pub fn condition(self, tokens: &mut Cursor<'_>) -> Result<CondTree, Stop>
-        ensures { Reads (outcome self.depth (conditions.condition self.qualities) tokens.old) result tokens.new }
+        ensures { Reads (outcome self.depth (conditions.condition self.qualities) tokens.old) result
+            tokens.new }
     {
         Ok(disjoined(self.disjuncts(tokens)?))
     }

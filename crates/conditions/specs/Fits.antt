@@ -13,10 +13,13 @@ use Rattle.conditions.specs.declared.condition.Cond.{Cond}
 use Rattle.conditions.specs.Meaning.{scalars_of}
 
 module _ (tables : Tables) (from : List ℕ) (first : ℕ) (rows : List ℕ) where
-  -- the place is in the combination, its column can be ranked, and the base preference has a level or a distance
+  -- the place is in the combination, its column can be ranked, and the base preference has a level
+  -- or a distance
   pub record QualityFits (quality : Quality) : Type 0 where
     pub in_sight : IsInSight tables from first rows quality.place
-    pub rankable : HoldsAt (λ (column : Column). IsRankable quality.base column.domain column.nullable) (columns_of tables (slice_index from quality.place.table)) quality.place.column
+    pub rankable : HoldsAt (λ (column : Column).
+        IsRankable quality.base column.domain column.nullable)
+        (columns_of tables (slice_index from quality.place.table)) quality.place.column
     pub has_quality : IsTrue (has_level quality.base || has_distance quality.base)
 
   abbrev pub ScalarFits : Scalar → Type 0

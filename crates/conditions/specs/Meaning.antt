@@ -1,6 +1,7 @@
--- What scalars and conditions mean for a combination of rows (ISO/IEC 9075:1992, search condition; LEVEL, DISTANCE and TOP
--- follow Kießling and Köstler 2002).
-use Rattle.std.specs.Prelude.{ℕ, ℤ, pos, Bool, false, nat_eq, Option, Some, None, List, [], ◌∷◌, map}
+-- What scalars and conditions mean for a combination of rows (ISO/IEC 9075:1992, search condition;
+-- LEVEL, DISTANCE and TOP follow Kießling and Köstler 2002).
+use Rattle.std.specs.Prelude.{ℕ, ℤ, pos, Bool, false, nat_eq, Option, Some, None, List, [], ◌∷◌}
+use Rattle.std.specs.Prelude.{map}
 use Rattle.std.specs.List.{flat_map}
 use Rattle.std.specs.Ordering.{int_eq}
 use Rattle.prefsql_values.specs.declared.truth.Truth.{Truth}
@@ -31,18 +32,27 @@ is_best None None = false
 abbrev pub scalar_value : Sight → Scalar → Value
 scalar_value sight (scalar.Column place) = sight place
 scalar_value sight (scalar.Literal value) = value
-scalar_value sight (scalar.Quality quality) = quality_of (level_of quality.base (sight quality.place)) (distance_of quality.base (sight quality.place))
+scalar_value sight (scalar.Quality quality) =
+    quality_of (level_of quality.base (sight quality.place))
+    (distance_of quality.base (sight quality.place))
 
 -- one layer of a condition, with the truth of each part in its place
 abbrev pub truth_step : Sight → Cond-F Truth → Truth
 truth_step sight (Cond-F.And parts) = all_true parts
 truth_step sight (Cond-F.Or parts) = any_true parts
 truth_step sight (Cond-F.Not part) = negated part
-truth_step sight (Cond-F.Compare op a b) = comparison op (scalar_value sight a) (scalar_value sight b)
-truth_step sight (Cond-F.Between negate a low high) = negated_if negate (between (scalar_value sight a) (scalar_value sight low) (scalar_value sight high))
-truth_step sight (Cond-F.OneOf negate a list) = negated_if negate (one_of (scalar_value sight a) (map (scalar_value sight) list))
-truth_step sight (Cond-F.IsNull negate a) = negated_if negate (truth_of (is_null (scalar_value sight a)))
-truth_step sight (Cond-F.Top quality) = truth_of (is_best (level_of quality.base (sight quality.place)) (distance_of quality.base (sight quality.place)))
+truth_step sight (Cond-F.Compare op a b) =
+    comparison op (scalar_value sight a) (scalar_value sight b)
+truth_step sight (Cond-F.Between negate a low high) =
+    negated_if negate (between (scalar_value sight a) (scalar_value sight low)
+    (scalar_value sight high))
+truth_step sight (Cond-F.OneOf negate a list) =
+    negated_if negate (one_of (scalar_value sight a) (map (scalar_value sight) list))
+truth_step sight (Cond-F.IsNull negate a) =
+    negated_if negate (truth_of (is_null (scalar_value sight a)))
+truth_step sight (Cond-F.Top quality) =
+    truth_of (is_best (level_of quality.base (sight quality.place))
+    (distance_of quality.base (sight quality.place)))
 
 -- the truth of a condition
 unfoldable pub truth : Sight → Cond → Truth

@@ -4,8 +4,8 @@ use base_prefs::BasePref;
 use prefsql_tables::ColumnPlace;
 use prefsql_values::{Boxed, CompareOp, List, Value};
 
-/// How good the value of a column is by a base preference (Kießling and Köstler 2002): its level where the kind has
-/// levels, else its distance.
+/// How good the value of a column is by a base preference (Kießling and Köstler 2002): its level
+/// where the kind has levels, else its distance.
 #[derive(Debug, Drop)]
 pub struct Quality {
     /// The number, from 1, of the leaf that has the base preference.

@@ -1,4 +1,5 @@
-//! Conditions over combinations of rows, in three-valued logic (ISO/IEC 9075:1992), with the qualities of preferences.
+//! Conditions over combinations of rows, in three-valued logic (ISO/IEC 9075:1992), with the
+//! qualities of preferences.
 #![tactic(auto)]
 
 mod condition;

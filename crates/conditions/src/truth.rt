@@ -14,11 +14,11 @@ use prefsql_values::{
     Cell, CompareOp, Truth, and, compares, is_between, is_null, negated_if, not, or, truth_of,
 };
 
-/// The value of a scalar for a combination of rows. `from` has the position in the set of each FROM table, and the
-/// combination is of the FROM tables from position `first` on.
+/// The value of a scalar for a combination of rows. `from` has the position in the set of each FROM
+/// table, and the combination is of the FROM tables from position `first` on.
 ///
-/// Needs places that are in the combination. A quality needs a column without NULL, of numbers for AROUND and BETWEEN, and a
-/// base preference with a level or a distance.
+/// Needs places that are in the combination. A quality needs a column without NULL, of numbers for
+/// AROUND and BETWEEN, and a base preference with a level or a distance.
 pub fn scalar_cell<'a>(
     scalar: &'a Scalar,
     tables: &'a TableSet,
@@ -27,7 +27,8 @@ pub fn scalar_cell<'a>(
     combo: &Combo,
 ) -> Cell<'a>
     requires { ScalarFits tables.now from.now first combo.now.rows scalar.now }
-    ensures { value_of result ≡ scalar_value (sight tables.now from.now first combo.now.rows) scalar.now }
+    ensures { value_of result
+        ≡ scalar_value (sight tables.now from.now first combo.now.rows) scalar.now }
 {
     match scalar {
         Scalar::Column(place) => cell_in_sight(*place, tables, from, first, combo),
@@ -49,7 +50,8 @@ fn judged_cell<'a>(
     combo: &Combo,
 ) -> Cell<'a>
     requires { QualityFits tables.now from.now first combo.now.rows quality.now }
-    ensures value { value_of result ≡ sight tables.now from.now first combo.now.rows quality.now.place }
+    ensures value { value_of result
+        ≡ sight tables.now from.now first combo.now.rows quality.now.place }
     ensures judged { IsJudged quality.now.base (value_of result) }
 {
     tables.keeps_limits();
@@ -59,7 +61,8 @@ fn judged_cell<'a>(
 /// The level of a cell as a number, else its distance.
 fn quality_cell<'a>(quality: &Quality, cell: Cell<'_>) -> Cell<'a>
     requires { IsJudged quality.now.base (value_of cell) }
-    ensures { value_of result ≡ quality_of (level_of quality.now.base (value_of cell.entry)) (distance_of quality.now.base (value_of cell.entry)) }
+    ensures { value_of result ≡ quality_of (level_of quality.now.base (value_of cell.entry))
+        (distance_of quality.now.base (value_of cell.entry)) }
 {
     match quality.base.level(cell) {
         Some(level) => Cell::Num(i128::from(level)),
@@ -74,9 +77,12 @@ fn quality_cell<'a>(quality: &Quality, cell: Cell<'_>) -> Cell<'a>
 #[tactic(auto, using(crate::proofs::BestLaws::none_better))]
 fn is_best(quality: &Quality, cell: Cell<'_>) -> bool
     requires { IsJudged quality.now.base (value_of cell) }
-    ensures test { result ≡ is_best (level_of quality.now.base (value_of cell.entry)) (distance_of quality.now.base (value_of cell.entry)) }
-    ensures meaning { IsTrue result ↔ ((level_of quality.now.base (value_of cell.entry) ≡ Some 1) ⊎ (distance_of quality.now.base (value_of cell.entry) ≡ Some (pos 0))) }
-    ensures none_better { IsTrue result → (better : Value) → ¬ IsBetter quality.now.base better (value_of cell.entry) }
+    ensures test { result ≡ is_best (level_of quality.now.base (value_of cell.entry))
+        (distance_of quality.now.base (value_of cell.entry)) }
+    ensures meaning { IsTrue result ↔ ((level_of quality.now.base (value_of cell.entry) ≡ Some 1)
+        ⊎ (distance_of quality.now.base (value_of cell.entry) ≡ Some (pos 0))) }
+    ensures none_better { IsTrue result → (better : Value)
+        → ¬ IsBetter quality.now.base better (value_of cell.entry) }
 {
     quality.base.keeps_limits();
     match quality.base.level(cell) {
@@ -88,7 +94,8 @@ fn is_best(quality: &Quality, cell: Cell<'_>) -> bool
     }
 }
 
-/// The truth of a condition for a combination of rows. It needs what `scalar_cell` needs of each of its scalars.
+/// The truth of a condition for a combination of rows. It needs what `scalar_cell` needs of each of
+/// its scalars.
 #[cycle(holds)]
 #[tactic(auto, using(crate::proofs::CondReads::truth_reads))]
 pub fn holds(cond: &Cond, tables: &TableSet, from: &[u32], first: u32, combo: &Combo) -> Truth
@@ -131,7 +138,8 @@ pub fn holds(cond: &Cond, tables: &TableSet, from: &[u32], first: u32, combo: &C
 #[tactic(auto, using(crate::proofs::Truths::truths))]
 fn all_hold(parts: &[Cond], tables: &TableSet, from: &[u32], first: u32, combo: &Combo) -> Truth
     requires { All (CondFits tables.now from.now first combo.now.rows) parts.now }
-    ensures { result ≡ all_true (map (truth (sight tables.now from.now first combo.now.rows)) parts.now) }
+    ensures { result ≡ all_true
+        (map (truth (sight tables.now from.now first combo.now.rows)) parts.now) }
 {
     let mut so_far = Truth::True;
     for part in parts {
@@ -148,7 +156,8 @@ fn all_hold(parts: &[Cond], tables: &TableSet, from: &[u32], first: u32, combo: 
 #[tactic(auto, using(crate::proofs::Truths::truths))]
 fn any_holds(parts: &[Cond], tables: &TableSet, from: &[u32], first: u32, combo: &Combo) -> Truth
     requires { All (CondFits tables.now from.now first combo.now.rows) parts.now }
-    ensures { result ≡ any_true (map (truth (sight tables.now from.now first combo.now.rows)) parts.now) }
+    ensures { result ≡ any_true
+        (map (truth (sight tables.now from.now first combo.now.rows)) parts.now) }
 {
     let mut so_far = Truth::False;
     for part in parts {
@@ -171,7 +180,8 @@ fn is_one_of(
     combo: &Combo,
 ) -> Truth
     requires { All (ScalarFits tables.now from.now first combo.now.rows) list.now }
-    ensures { result ≡ one_of (value_of cell.entry) (map (scalar_value (sight tables.now from.now first combo.now.rows)) list.now) }
+    ensures { result ≡ one_of (value_of cell.entry)
+        (map (scalar_value (sight tables.now from.now first combo.now.rows)) list.now) }
 {
     let mut so_far = Truth::False;
     for item in list {

@@ -1,7 +1,10 @@
--- How a form is read that needs one token of look-ahead: the sets of classes that decide it are computed from the form.
--- This is the classical predictive reading of LL(1) grammars, with the place of the first fault.
-use Rattle.std.specs.Prelude.{ℕ, zero, suc, Bool, true, false, ◌||◌, ◌&&◌, not, ◌==◌, if◌then◌else◌, List, [], ◌∷◌, ◌++◌, length, Option, Some, None, Result, Ok, Err}
-use Rattle.grammar_forms.specs.Form.{Form, nothing, token, both, either, option, many, rows, map, rule}
+-- How a form is read that needs one token of look-ahead: the sets of classes that decide it are
+-- computed from the form. This is the classical predictive reading of LL(1) grammars, with the
+-- place of the first fault.
+use Rattle.std.specs.Prelude.{ℕ, zero, suc, Bool, true, false, ◌||◌, ◌&&◌, not, ◌==◌, if◌then◌else◌}
+use Rattle.std.specs.Prelude.{List, [], ◌∷◌, ◌++◌, length, Option, Some, None, Result, Ok, Err}
+use Rattle.grammar_forms.specs.Form.{Form, nothing, token, both, either, option, many, rows, map}
+use Rattle.grammar_forms.specs.Form.{rule}
 
 -- sets of classes, as lists
 abbrev pub contains : ℕ → List ℕ → Bool
@@ -21,7 +24,8 @@ abbrev pub Outcome : Type 0 → Type 0 → Type 0
 Outcome Token A = Result (A × List Token) (List Token)
 
 -- goes on after what was read
-abbrev pub and_then : {Token A B : Type 0} → Outcome Token A → (A → List Token → Outcome Token B) → Outcome Token B
+abbrev pub and_then : {Token A B : Type 0} → Outcome Token A → (A → List Token → Outcome Token B)
+    → Outcome Token B
 and_then (Ok p) k = k p.0 p.1
 and_then (Err rest) k = Err rest
 
@@ -35,24 +39,36 @@ begins class cs [] = false
 begins class cs (t ∷ ts) = contains (class t) cs
 
 -- a token of this class
-abbrev pub read_token : {Token A : Type 0} → (Token → ℕ) → ℕ → (Token → A) → List Token → Outcome Token A
+abbrev pub read_token : {Token A : Type 0} → (Token → ℕ) → ℕ → (Token → A) → List Token
+    → Outcome Token A
 read_token class c value [] = Err []
 read_token class c value (t ∷ ts) = if class t == c then Ok (value t, ts) else Err (t ∷ ts)
 
 -- One after the other while the next token begins one. The number bounds the turns.
-abbrev pub read_many : {Token A : Type 0} → (List Token → Bool) → (List Token → Outcome Token A) → ℕ → List Token → Outcome Token (List A)
+abbrev pub read_many : {Token A : Type 0} → (List Token → Bool) → (List Token → Outcome Token A) → ℕ
+    → List Token → Outcome Token (List A)
 read_many goes_on read zero ts = Ok ([], ts)
 read_many goes_on read (suc n) ts =
-    if goes_on ts then and_then (read ts) (λ v rest. with_value (λ vs. v ∷ vs) (read_many goes_on read n rest)) else Ok ([], ts)
+    if goes_on ts
+    then and_then (read ts) (λ v rest. with_value (λ vs. v ∷ vs) (read_many goes_on read n rest))
+    else Ok ([], ts)
 
 -- {c f} [c g], where the token after c says whether f or g stands there
-abbrev pub read_rows : {Token A B : Type 0} → (Token → ℕ) → ℕ → List ℕ → (List Token → Outcome Token A) → (List Token → Outcome Token B) → ℕ → List Token → Outcome Token (List A × Option B)
+abbrev pub read_rows : {Token A B : Type 0} → (Token → ℕ) → ℕ → List ℕ
+    → (List Token → Outcome Token A) → (List Token → Outcome Token B) → ℕ → List Token
+    → Outcome Token (List A × Option B)
 read_rows class c gs f g zero ts = Ok (([], None), ts)
 read_rows class c gs f g (suc n) [] = Ok (([], None), [])
 read_rows class c gs f g (suc n) (t ∷ ts) =
-    if class t == c then (if begins class gs ts then with_value (λ b. ([], Some b)) (g ts) else and_then (f ts) (λ a rest. with_value (λ p. (a ∷ p.0, p.1)) (read_rows class c gs f g n rest))) else Ok (([], None), t ∷ ts)
+    if class t == c
+    then (if begins class gs ts then with_value (λ b. ([], Some b)) (g ts)
+    else and_then (f ts)
+    (λ a rest. with_value (λ p. (a ∷ p.0, p.1)) (read_rows class c gs f g n rest)))
+    else Ok (([], None), t ∷ ts)
 
-module _ (Token : Type 0) (Rule : Type 0 → Type 1) (class : Token → ℕ) (rule_starts : (A : Type 0) → Rule A → List ℕ) (rule_continues : (A : Type 0) → Rule A → List ℕ) where
+module _ (Token : Type 0) (Rule : Type 0 → Type 1) (class : Token → ℕ)
+    (rule_starts : (A : Type 0) → Rule A → List ℕ) (rule_continues : (A : Type 0) → Rule A
+    → List ℕ) where
   -- whether no token may be a whole one
   abbrev pub is_optional : {A : Type 0} → Form Token Rule A → Bool
   is_optional (nothing a) = true
@@ -105,23 +121,33 @@ module _ (Token : Type 0) (Rule : Type 0 → Type 1) (class : Token → ℕ) (ru
   abbrev pub is_predictive : {A : Type 0} → Form Token Rule A → Bool
   is_predictive (nothing a) = true
   is_predictive (token c value) = true
-  is_predictive (both f g) = (is_predictive f && is_predictive g) && disjoint (continues f) (starts g)
-  is_predictive (either f g) = ((is_predictive f && is_predictive g) && disjoint (starts f) (starts g)) && (not (is_optional f) && not (is_optional g))
+  is_predictive (both f g) = (is_predictive f && is_predictive g)
+      && disjoint (continues f) (starts g)
+  is_predictive (either f g) =
+      ((is_predictive f && is_predictive g) && disjoint (starts f) (starts g))
+      && (not (is_optional f) && not (is_optional g))
   is_predictive (option f) = (is_predictive f && not (is_optional f)) && is_guarded f
-  is_predictive (many f) = ((is_predictive f && not (is_optional f)) && is_guarded f) && disjoint (continues f) (starts f)
-  is_predictive (rows c f g) = ((is_predictive f && is_predictive g) && (not (is_optional f) && not (is_optional g))) && (disjoint (starts f) (starts g) && not (contains c (continues f)))
+  is_predictive (many f) = ((is_predictive f && not (is_optional f)) && is_guarded f)
+      && disjoint (continues f) (starts f)
+  is_predictive (rows c f g) =
+      ((is_predictive f && is_predictive g) && (not (is_optional f) && not (is_optional g)))
+      && (disjoint (starts f) (starts g) && not (contains c (continues f)))
   is_predictive (map h f) = is_predictive f
   is_predictive (rule p) = true
 
   -- a form, where R reads the productions
-  abbrev pub read_by : ((A : Type 0) → Rule A → List Token → Outcome Token A) → {A : Type 0} → Form Token Rule A → List Token → Outcome Token A
+  abbrev pub read_by : ((A : Type 0) → Rule A → List Token → Outcome Token A) → {A : Type 0}
+      → Form Token Rule A → List Token → Outcome Token A
   read_by R (nothing a) ts = Ok (a, ts)
   read_by R (token c value) ts = read_token class c value ts
-  read_by R (both f g) ts = and_then (read_by R f ts) (λ a rest. with_value (λ b. (a, b)) (read_by R g rest))
+  read_by R (both f g) ts =
+      and_then (read_by R f ts) (λ a rest. with_value (λ b. (a, b)) (read_by R g rest))
   read_by R (either f g) ts = if begins class (starts f) ts then read_by R f ts else read_by R g ts
-  read_by R (option f) ts = if begins class (starts f) ts then with_value Some (read_by R f ts) else Ok (None, ts)
+  read_by R (option f) ts = if begins class (starts f) ts then with_value Some (read_by R f ts)
+      else Ok (None, ts)
   read_by R (many f) ts = read_many (begins class (starts f)) (read_by R f) (length ts) ts
-  read_by R (rows c f g) ts = read_rows class c (starts g) (read_by R f) (read_by R g) (length ts) ts
+  read_by R (rows c f g) ts =
+      read_rows class c (starts g) (read_by R f) (read_by R g) (length ts) ts
   read_by R (map h f) ts = with_value h (read_by R f ts)
   read_by R (rule {A = A} p) ts = R A p ts
 

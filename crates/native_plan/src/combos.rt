@@ -20,7 +20,9 @@ pub(crate) fn singles(
     count: u32,
 ) -> Result<Vec<Combo>, Memory>
     requires { (row : ℕ) → row < count → CanAskAll asked.now conjuncts.now first (single row) }
-    ensures { IfOk result (λ combos. combos.items ≡ filter (holds_all asked.now conjuncts.now first) (single_rows count)) }
+    ensures { IfOk result
+        (λ combos. combos.items
+        ≡ filter (holds_all asked.now conjuncts.now first) (single_rows count)) }
 {
     let mut combos = Vec::new(alloc);
     for row in 0..count {
@@ -48,7 +50,8 @@ fn add(
     combos: &mut Vec<Combo>,
 ) -> Result<(), Memory>
     requires { CanAskAll asked.now conjuncts.now first combo }
-    ensures { OnOk result (combos.new.items ≡ combos.old.items ++ filter (holds_all asked.now conjuncts.now first) (combo ∷ [])) }
+    ensures { OnOk result (combos.new.items ≡ combos.old.items
+        ++ filter (holds_all asked.now conjuncts.now first) (combo ∷ [])) }
 {
     if all_hold(asked, conjuncts, first, &combo) {
         combos.push(combo)?;
@@ -66,8 +69,11 @@ pub(crate) fn pairs(
     lefts: &[Combo],
     rights: &[Combo],
 ) -> Result<Vec<Combo>, Memory>
-    requires { All (λ left. All (λ right. CanAskAll asked.now conjuncts.now first (pair left right)) rights.now) lefts.now }
-    ensures { IfOk result (λ combos. combos.items ≡ filter (holds_all asked.now conjuncts.now first) (pairs_of lefts.now rights.now)) }
+    requires { All (λ left. All
+        (λ right. CanAskAll asked.now conjuncts.now first (pair left right)) rights.now) lefts.now }
+    ensures { IfOk result
+        (λ combos. combos.items
+        ≡ filter (holds_all asked.now conjuncts.now first) (pairs_of lefts.now rights.now)) }
 {
     let mut combos = Vec::new(alloc);
     for left in lefts {
@@ -86,8 +92,10 @@ fn add_pairs(
     rights: &[Combo],
     combos: &mut Vec<Combo>,
 ) -> Result<(), Memory>
-    requires { All (λ right. CanAskAll asked.now conjuncts.now first (pair left.now right)) rights.now }
-    ensures { OnOk result (combos.new.items ≡ combos.old.items ++ filter (holds_all asked.now conjuncts.now first) (map (pair left.now) rights.now)) }
+    requires { All (λ right. CanAskAll asked.now conjuncts.now first (pair left.now right))
+        rights.now }
+    ensures { OnOk result (combos.new.items ≡ combos.old.items
+        ++ filter (holds_all asked.now conjuncts.now first) (map (pair left.now) rights.now)) }
 {
     for right in rights {
         let both = joined(alloc, left, right)?;
@@ -117,7 +125,8 @@ pub(crate) fn kept(
     combos: Vec<Combo>,
 ) -> Result<Vec<Combo>, Memory>
     requires { All (CanAskAll asked.now conjuncts.now first) combos.items }
-    ensures { IfOk result (λ kept. kept.items ≡ filter (holds_all asked.now conjuncts.now first) combos.items) }
+    ensures { IfOk result
+        (λ kept. kept.items ≡ filter (holds_all asked.now conjuncts.now first) combos.items) }
 {
     let mut kept = Vec::new(alloc);
     for combo in combos {

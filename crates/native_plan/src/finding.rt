@@ -70,9 +70,12 @@ fn scan(
 ) -> Result<FoundRows, Memory>
     requires asked { IsAsked asked.now }
     requires there { table < length asked.now.block.now.from }
-    requires askable { (row : ℕ) → row < rows_at asked.now table → CanAskAll asked.now conjuncts.now table (single row) }
+    requires askable { (row : ℕ) → row < rows_at asked.now table
+        → CanAskAll asked.now conjuncts.now table (single row) }
     ensures first { IfOk result (λ found. found.first ≡ table) }
-    ensures combos { IfOk result (λ found. found.combos.items ≡ filter (holds_all asked.now conjuncts.now table) (single_rows (rows_at asked.now table))) }
+    ensures combos { IfOk result
+        (λ found. found.combos.items ≡ filter (holds_all asked.now conjuncts.now table)
+        (single_rows (rows_at asked.now table))) }
     ensures tests { IfOk result (λ found. found.tests ≡ 0) }
 {
     let count = asked.tables.row_count(asked.from[table as usize]);
@@ -93,7 +96,9 @@ fn keep(
 ) -> Result<FoundRows, Memory>
     requires { All (CanAskAll asked.now conjuncts.now found.first) found.combos.items }
     ensures first { IfOk result (λ left. left.first ≡ found.first) }
-    ensures combos { IfOk result (λ left. left.combos.items ≡ filter (holds_all asked.now conjuncts.now found.first) found.combos.items) }
+    ensures combos { IfOk result
+        (λ left. left.combos.items
+        ≡ filter (holds_all asked.now conjuncts.now found.first) found.combos.items) }
     ensures tests { IfOk result (λ left. left.tests ≡ found.tests) }
 {
     let FoundRows {
@@ -117,10 +122,15 @@ fn join(
     rights: FoundRows,
     conjuncts: &[Conjunct],
 ) -> Result<FoundRows, Memory>
-    requires { All (λ left. All (λ right. CanAskAll asked.now conjuncts.now lefts.first (pair left right)) rights.combos.items) lefts.combos.items }
+    requires { All (λ left. All
+        (λ right. CanAskAll asked.now conjuncts.now lefts.first (pair left right))
+        rights.combos.items) lefts.combos.items }
     ensures first { IfOk result (λ found. found.first ≡ lefts.first) }
-    ensures combos { IfOk result (λ found. found.combos.items ≡ filter (holds_all asked.now conjuncts.now lefts.first) (pairs_of lefts.combos.items rights.combos.items)) }
-    ensures tests { IfOk result (λ found. found.tests ≡ min (lefts.tests + rights.tests) last_count) }
+    ensures combos { IfOk result
+        (λ found. found.combos.items ≡ filter (holds_all asked.now conjuncts.now lefts.first)
+        (pairs_of lefts.combos.items rights.combos.items)) }
+    ensures tests { IfOk result
+        (λ found. found.tests ≡ min (lefts.tests + rights.tests) last_count) }
 {
     let combos = pairs(
         alloc,
@@ -146,7 +156,9 @@ fn best<L: Ledger>(
     below: FoundRows,
     steps: &mut Steps<L>,
 ) -> Result<FoundRows, Memory>
-    requires { All (λ combo. TermFits asked.now.tables.now asked.now.from.now below.first combo.rows term.now groups.now) below.combos.items }
+    requires { All (λ combo.
+        TermFits asked.now.tables.now asked.now.from.now below.first combo.rows term.now groups.now)
+        below.combos.items }
     ensures { IfOk result (IsBestOf asked.now term.now groups.now steps.old steps.new below) }
 {
     let FoundRows {

@@ -37,16 +37,21 @@ pub fn run_plan<L: Ledger>(
     requires valid { IsValidBlock block.now }
     requires fits { FitsTables tables.now block.now }
     requires planned { IsPlanOf block.now plan.now }
-    ensures answer { IfOk result (λ run. run.answer ≡ answer_of_rows tables.now block.now (plan_rows tables.now block.now plan.now)) }
+    ensures answer { IfOk result
+        (λ run. run.answer
+        ≡ answer_of_rows tables.now block.now (plan_rows tables.now block.now plan.now)) }
 
     // At least the rows in less the rows out, and at most the rows in times the rows out, over all
     // Bests and their groups.
-    ensures least_tests { IfOk result (λ run. min (tested_by tables.now block.now plan.now).floor (2 ^ 64 - 1) ≤ run.tests) }
-    ensures most_tests { IfOk result (λ run. run.tests ≤ (tested_by tables.now block.now plan.now).bound) }
+    ensures least_tests { IfOk result
+        (λ run. min (tested_by tables.now block.now plan.now).floor (2 ^ 64 - 1) ≤ run.tests) }
+    ensures most_tests { IfOk result
+        (λ run. run.tests ≤ (tested_by tables.now block.now plan.now).bound) }
 
     // The count of tests is tied to the steps.
     ensures least_steps { IfOk result (λ run. steps.old + run.tests ≤ steps.new) }
-    ensures most_steps { IfOk result (λ run. run.tests < 2 ^ 64 - 1 → steps.new ≤ steps.old + 8 * run.tests) }
+    ensures most_steps { IfOk result
+        (λ run. run.tests < 2 ^ 64 - 1 → steps.new ≤ steps.old + 8 * run.tests) }
 {
     let from = indexes_of(alloc, block.from.as_slice())?;
     let asked = Asked {

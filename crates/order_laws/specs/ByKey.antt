@@ -16,16 +16,20 @@ is_lt-true Equal h = absurd (cc)
 is_lt-true Greater h = absurd (cc)
 
 -- where a smaller key is better, and the same items have equal keys, the laws hold
-pub lawful_by_key : {X K : Type 0} (key : X → K) {cmp : K → K → Ordering} → IsTotalOrder cmp → {same : X → X → Bool} → IsEquivalence same
+pub lawful_by_key : {X K : Type 0} (key : X → K) {cmp : K → K → Ordering} → IsTotalOrder cmp
+    → {same : X → X → Bool} → IsEquivalence same
     → ((x y : X) → same x y ≡ true → cmp (key x) (key y) ≡ Equal)
     → IsLawful (λ x y. is_lt (cmp (key x) (key y))) same (on key cmp)
 lawful_by_key {X} {K} key {cmp} total {same} equivalence tied = record {
   irreflexive = λ x. ap is_lt (tied_itself total (key x));
-  transitive = λ x y z xy yz. ap is_lt (total.trans (key x) (key y) (key z) (is_lt-true _ xy) (is_lt-true _ yz));
+  transitive = λ x y z xy yz.
+      ap is_lt (total.trans (key x) (key y) (key z) (is_lt-true _ xy) (is_lt-true _ yz));
   equivalence = equivalence;
   same_better = λ x y z xy yz. ap is_lt (total.congr (key x) (key y) (key z) (tied x y xy)) ∙ yz;
-  better_same = λ x y z xy yz. ap is_lt (sym (alike_right total (key y) (key z) (key x) (tied y z yz))) ∙ xy;
-  apart = λ x y xy. false_from_ne_true (same x y) (λ h. let equal = tied x y h in let less = is_lt-true (cmp (key x) (key y)) xy in cc);
+  better_same = λ x y z xy yz.
+      ap is_lt (sym (alike_right total (key y) (key z) (key x) (tied y z yz))) ∙ xy;
+  apart = λ x y xy. false_from_ne_true (same x y) (λ h. let equal = tied x y h in
+      let less = is_lt-true (cmp (key x) (key y)) xy in cc);
   better_key = λ x y xy. is_lt-true (cmp (key x) (key y)) xy;
   same_key = tied;
   keys = on_total key total;
@@ -36,10 +40,14 @@ is_eq-true Less h = absurd (cc)
 is_eq-true Equal h = refl
 is_eq-true Greater h = absurd (cc)
 
--- where a smaller key is better, and items of equal keys are the same, the laws hold of whatever items are valid
-pub lawful_by_key_alone : {X K : Type 0} (valid : X → Type 0) (key : X → K) {cmp : K → K → Ordering} → IsTotalOrder cmp
-    → IsLawfulWhere valid (λ x y. is_lt (cmp (key x) (key y))) (λ x y. is_eq (cmp (key x) (key y))) (on key cmp)
+-- where a smaller key is better, and items of equal keys are the same, the laws hold of whatever
+-- items are valid
+pub lawful_by_key_alone : {X K : Type 0} (valid : X → Type 0) (key : X → K) {cmp : K → K → Ordering}
+    → IsTotalOrder cmp
+    → IsLawfulWhere valid (λ x y. is_lt (cmp (key x) (key y))) (λ x y. is_eq (cmp (key x) (key y)))
+    (on key cmp)
 lawful_by_key_alone {X} {K} valid key {cmp} total = record {
   among_valid = lawful_on (item {valid = valid})
-      (lawful_by_key key total (on_equiv key (eq_by_cmp_equiv total)) (λ x y. is_eq-true (cmp (key x) (key y))));
+      (lawful_by_key key total (on_equiv key (eq_by_cmp_equiv total))
+      (λ x y. is_eq-true (cmp (key x) (key y))));
 }

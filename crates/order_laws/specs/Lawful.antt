@@ -1,6 +1,6 @@
--- What a preference is: a strict partial order of its items (Kießling, VLDB 2002) with an equivalence
--- that it respects (substitutable values), and with keys that are smaller where an item is better,
--- which is this project's own.
+-- What a preference is: a strict partial order of its items (Kießling, VLDB 2002) with an
+-- equivalence that it respects (substitutable values), and with keys that are smaller where an item
+-- is better, which is this project's own.
 use Rattle.std.specs.Prelude.{◌≡◌, Bool, true, false}
 use Rattle.std.specs.Cmp.{IsTotalOrder, IsEquivalence}
 use Rattle.std.specs.Ordering.{on}

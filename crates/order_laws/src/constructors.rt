@@ -8,8 +8,9 @@ use prefsql_values::Steps;
 use std::cmp::Ordering;
 use std::sync::ledger::Ledger;
 
-/// Both parts count alike (Pareto preference, Kießling, VLDB 2002): an item is better where it is better by one part, and
-/// better or the same by the other. Two items are the same where they are so by both parts. It is as wide as both parts.
+/// Both parts count alike (Pareto preference, Kießling, VLDB 2002): an item is better where it is
+/// better by one part, and better or the same by the other. Two items are the same where they are
+/// so by both parts. It is as wide as both parts.
 #[derive(Drop)]
 pub struct Pareto<P, Q> {
     /// The part whose keys are compared first.
@@ -18,9 +19,9 @@ pub struct Pareto<P, Q> {
     pub second: Q,
 }
 
-/// The first part counts more (prioritised preference, Kießling, VLDB 2002): an item is better where it is better by the
-/// first part, or the same by it and better by the second. Two items are the same where they are so by both parts. It is
-/// as wide as both parts.
+/// The first part counts more (prioritised preference, Kießling, VLDB 2002): an item is better
+/// where it is better by the first part, or the same by it and better by the second. Two items are
+/// the same where they are so by both parts. It is as wide as both parts.
 #[derive(Drop)]
 pub struct Prior<P, Q> {
     /// The part that counts more.
@@ -29,8 +30,8 @@ pub struct Prior<P, Q> {
     pub second: Q,
 }
 
-/// The preference turned round (dual preference, Kießling, VLDB 2002): what was better is worse, and keys are compared the
-/// other way round.
+/// The preference turned round (dual preference, Kießling, VLDB 2002): what was better is worse,
+/// and keys are compared the other way round.
 #[derive(Drop)]
 pub struct Flip<P> {
     /// What is turned round.
@@ -72,7 +73,8 @@ impl<P: Preference, Q: Preference<Item = P::Item>> Preference for Pareto<P, Q> {
 
     ghost valid = { λ pref x. P.valid pref.first x × Q.valid pref.second x };
 
-    ghost better = { λ pref. pareto_better (P.better pref.first) (P.same pref.first) (Q.better pref.second) (Q.same pref.second) };
+    ghost better = { λ pref. pareto_better (P.better pref.first) (P.same pref.first)
+        (Q.better pref.second) (Q.same pref.second) };
 
     ghost same = { λ pref. eq_of_both (P.same pref.first) (Q.same pref.second) };
 
@@ -82,7 +84,8 @@ impl<P: Preference, Q: Preference<Item = P::Item>> Preference for Pareto<P, Q> {
 
     ghost laws = { λ pref. pareto_lawful_where (P.laws pref.first) (Q.laws pref.second) };
 
-    ghost width_positive = { λ pref. sum_positive (P.width pref.first) (Q.width pref.second) (P.width_positive pref.first) };
+    ghost width_positive = { λ pref. sum_positive (P.width pref.first) (Q.width pref.second)
+        (P.width_positive pref.first) };
 
     fn better<L: Ledger>(&self, a: &P::Item, b: &P::Item, steps: &mut Steps<L>) -> bool {
         if self.first.better(a, b, steps) {
@@ -109,7 +112,8 @@ impl<P: Preference, Q: Preference<Item = P::Item>> Preference for Prior<P, Q> {
 
     ghost valid = { λ pref x. P.valid pref.first x × Q.valid pref.second x };
 
-    ghost better = { λ pref. prior_better (P.better pref.first) (P.same pref.first) (Q.better pref.second) };
+    ghost better = { λ pref. prior_better (P.better pref.first) (P.same pref.first)
+        (Q.better pref.second) };
 
     ghost same = { λ pref. eq_of_both (P.same pref.first) (Q.same pref.second) };
 
@@ -119,7 +123,8 @@ impl<P: Preference, Q: Preference<Item = P::Item>> Preference for Prior<P, Q> {
 
     ghost laws = { λ pref. prior_lawful_where (P.laws pref.first) (Q.laws pref.second) };
 
-    ghost width_positive = { λ pref. sum_positive (P.width pref.first) (Q.width pref.second) (P.width_positive pref.first) };
+    ghost width_positive = { λ pref. sum_positive (P.width pref.first) (Q.width pref.second)
+        (P.width_positive pref.first) };
 
     fn better<L: Ledger>(&self, a: &P::Item, b: &P::Item, steps: &mut Steps<L>) -> bool {
         self.first.better(a, b, steps) || (self.first.same(a, b) && self.second.better(a, b, steps))

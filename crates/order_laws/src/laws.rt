@@ -1,5 +1,5 @@
-//! Four laws of the best items of a list. Their calls do nothing: what each says is its contract. The best items of a list
-//! are those that no item of it is better than, in their order.
+//! Four laws of the best items of a list. Their calls do nothing: what each says is its contract.
+//! The best items of a list are those that no item of it is better than, in their order.
 ghost use Rattle.std.specs.Prelude.{◌≡◌, Bool, All, filter};
 ghost use Rattle.order_laws.specs.Best.{best, IsNarrowerAmong, IsKeptUpwardsAmong, KeepsBestAmong, RanksWhatIsBetterAmong};
 ghost use Rattle.order_laws.specs.Combine.{prior_better};
@@ -23,16 +23,18 @@ pub trait Keep {
         ensures { result ≡ keeps self.now item.now };
 }
 
-/// Where each better pair of `p` is one of `q`, the best by `q` are the best by `q` of the best by `p`. So what is not the
-/// best by `p` may be dropped first.
+/// Where each better pair of `p` is one of `q`, the best by `q` are the best by `q` of the best by
+/// `p`. So what is not the best by `p` may be dropped first.
 pub fn narrow_law<P: Preference, Q: Preference<Item = P::Item>>(p: &P, q: &Q, items: &[P::Item])
     requires valid_by_p { All (P.valid p.now) items.now }
     requires valid_by_q { All (Q.valid q.now) items.now }
     requires narrower { IsNarrowerAmong items.now (P.better p.now) (Q.better q.now) }
-    ensures { best (Q.better q.now) (best (P.better p.now) items.now) ≡ best (Q.better q.now) items.now }
+    ensures { best (Q.better q.now) (best (P.better p.now) items.now)
+        ≡ best (Q.better q.now) items.now }
 {}
 
-/// Where what is better than a kept item is kept, filtering the best of a list is taking the best of the filtered list.
+/// Where what is better than a kept item is kept, filtering the best of a list is taking the best
+/// of the filtered list.
 pub fn filter_law<P: Preference, K: Keep<Item = P::Item>>(p: &P, keep: &K, items: &[P::Item])
     requires valid { All (P.valid p.now) items.now }
     requires upwards { IsKeptUpwardsAmong items.now (P.better p.now) (K.keeps keep.now) }
@@ -40,19 +42,22 @@ pub fn filter_law<P: Preference, K: Keep<Item = P::Item>>(p: &P, keep: &K, items
         ≡ best (P.better p.now) (filter (K.keeps keep.now) items.now) }
 {}
 
-/// Where each best item is kept, the best of the kept items are the best of all. So what is not kept may be dropped first.
+/// Where each best item is kept, the best of the kept items are the best of all. So what is not
+/// kept may be dropped first.
 pub fn prefilter_law<P: Preference, K: Keep<Item = P::Item>>(p: &P, keep: &K, items: &[P::Item])
     requires valid { All (P.valid p.now) items.now }
     requires best_kept { KeepsBestAmong items.now (P.better p.now) (K.keeps keep.now) }
-    ensures { best (P.better p.now) (filter (K.keeps keep.now) items.now) ≡ best (P.better p.now) items.now }
+    ensures { best (P.better p.now) (filter (K.keeps keep.now) items.now)
+        ≡ best (P.better p.now) items.now }
 {}
 
-/// Where `p` ranks what `q` tells apart (one of the two is better by `p`, or they are the same), the best by `p` before `q`
-/// are the best by `q` of the best by `p`.
+/// Where `p` ranks what `q` tells apart (one of the two is better by `p`, or they are the same),
+/// the best by `p` before `q` are the best by `q` of the best by `p`.
 pub fn cascade_law<P: Preference, Q: Preference<Item = P::Item>>(p: &P, q: &Q, items: &[P::Item])
     requires valid_by_p { All (P.valid p.now) items.now }
     requires valid_by_q { All (Q.valid q.now) items.now }
-    requires ranked { RanksWhatIsBetterAmong items.now (P.better p.now) (P.same p.now) (Q.better q.now) }
+    requires ranked { RanksWhatIsBetterAmong items.now (P.better p.now) (P.same p.now)
+        (Q.better q.now) }
     ensures { best (prior_better (P.better p.now) (P.same p.now) (Q.better q.now)) items.now
         ≡ best (Q.better q.now) (best (P.better p.now) items.now) }
 {}

@@ -6,9 +6,9 @@ use prefsql_values::Steps;
 use std::cmp::Ordering;
 use std::sync::ledger::Ledger;
 
-/// A strict partial order of items with an equivalence that it respects (Kießling, VLDB 2002). Beside them each item has
-/// a key, which is smaller for a better item and equal for the same items; that keys go with the order is this
-/// project's own.
+/// A strict partial order of items with an equivalence that it respects (Kießling, VLDB 2002).
+/// Beside them each item has a key, which is smaller for a better item and equal for the same
+/// items; that keys go with the order is this project's own.
 pub trait Preference {
     /// What is judged.
     type Item: Drop;
@@ -28,8 +28,8 @@ pub trait Preference {
     /// The greatest number of steps that a test takes.
     ghost width: { Self → ℕ };
 
-    /// Whether `a` is better than `b`. A step is one comparison of a leaf: a test takes one at least, and at most as many
-    /// as the preference is wide.
+    /// Whether `a` is better than `b`. A step is one comparison of a leaf: a test takes one at
+    /// least, and at most as many as the preference is wide.
     fn better<L: Ledger>(&self, a: &Self::Item, b: &Self::Item, steps: &mut Steps<L>) -> bool
         requires a_valid { valid self.now a.now }
         requires b_valid { valid self.now b.now }
@@ -50,7 +50,8 @@ pub trait Preference {
         ensures { result ≡ key_cmp self.now a.now b.now };
 
     /// What each `impl` must prove of the valid items.
-    ghost laws: { (pref : Self) → IsLawfulWhere (valid pref) (better pref) (same pref) (key_cmp pref) };
+    ghost laws: { (pref : Self)
+        → IsLawfulWhere (valid pref) (better pref) (same pref) (key_cmp pref) };
 
     /// A preference is at least one step wide.
     ghost width_positive: { (pref : Self) → 0 < width pref };

@@ -206,8 +206,11 @@ impl Keep for AtMost {
 
 /// What is better across is better by across before up.
 fn narrowed(items: &[Point])
-    ensures { best (prior_better (λ x y. is_lt (nat_cmp x.across y.across)) (λ x y. is_eq (nat_cmp x.across y.across)) (λ x y. is_lt (nat_cmp x.up y.up))) (best (λ x y. is_lt (nat_cmp x.across y.across)) items.now)
-        ≡ best (prior_better (λ x y. is_lt (nat_cmp x.across y.across)) (λ x y. is_eq (nat_cmp x.across y.across)) (λ x y. is_lt (nat_cmp x.up y.up))) items.now }
+    ensures { best (prior_better (λ x y. is_lt (nat_cmp x.across y.across))
+        (λ x y. is_eq (nat_cmp x.across y.across)) (λ x y. is_lt (nat_cmp x.up y.up)))
+        (best (λ x y. is_lt (nat_cmp x.across y.across)) items.now)
+        ≡ best (prior_better (λ x y. is_lt (nat_cmp x.across y.across))
+        (λ x y. is_eq (nat_cmp x.across y.across)) (λ x y. is_lt (nat_cmp x.up y.up))) items.now }
 {
     let prior = Prior {
         first: ByAcross,
@@ -235,8 +238,10 @@ fn prefiltered(items: &[Point], limit: u32)
 
 /// By across any two points are ranked.
 fn cascaded(items: &[Point])
-    ensures { best (prior_better (λ x y. is_lt (nat_cmp x.across y.across)) (λ x y. is_eq (nat_cmp x.across y.across)) (λ x y. is_lt (nat_cmp x.up y.up))) items.now
-        ≡ best (λ x y. is_lt (nat_cmp x.up y.up)) (best (λ x y. is_lt (nat_cmp x.across y.across)) items.now) }
+    ensures { best (prior_better (λ x y. is_lt (nat_cmp x.across y.across))
+        (λ x y. is_eq (nat_cmp x.across y.across)) (λ x y. is_lt (nat_cmp x.up y.up))) items.now
+        ≡ best (λ x y. is_lt (nat_cmp x.up y.up)) (best
+        (λ x y. is_lt (nat_cmp x.across y.across)) items.now) }
 {
     cascade_law(&ByAcross, &ByUp, items)
 }

@@ -1,6 +1,7 @@
 -- A plan as text: one line for each node, the top first, and an empty line at the end. The form is
 -- this project's own.
-use Rattle.std.specs.Prelude.{ℕ, ◌+◌, Option, Some, None, List, [], ◌∷◌, ◌++◌, codes, decimal, slice_get}
+use Rattle.std.specs.Prelude.{ℕ, ◌+◌, Option, Some, None, List, [], ◌∷◌, ◌++◌, codes, decimal}
+use Rattle.std.specs.Prelude.{slice_get}
 use Rattle.std.specs.List.{flat_map}
 use Rattle.prefsql_tables.specs.declared.place.ColumnPlace.{ColumnPlace}
 use Rattle.prefsql_tables.specs.declared.schema.Column.{Column}

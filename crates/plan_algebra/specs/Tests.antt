@@ -20,8 +20,8 @@ group_of groups see combos x = filter (λ y. is_same_group groups (see y) (see x
 abbrev pub tests_between : List ColumnPlace → (Combo → Sight) → List Combo → List Combo → ℕ
 tests_between groups see ins outs = sum_by (λ x. length (group_of groups see outs x)) ins
 
--- what a plan gives; and over its Bests and their groups the sums of the rows in times the rows out,
--- and of the rows in less the rows out
+-- what a plan gives; and over its Bests and their groups the sums of the rows in times the rows
+-- out, and of the rows in less the rows out
 pub record Tested : Type 0 where
   pub found : Found
   pub bound : ℕ

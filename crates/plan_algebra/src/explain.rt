@@ -12,8 +12,9 @@ use prefsql_values::Memory;
 use query_meaning::Block;
 use std::alloc::Global;
 
-/// A valid plan of the block as text: one line for each node, the top first, each indented by two spaces for each node
-/// above it, and an empty line at the end. Names are written as they are, numbers from 1. The only error is want of memory.
+/// A valid plan of the block as text: one line for each node, the top first, each indented by two
+/// spaces for each node above it, and an empty line at the end. Names are written as they are,
+/// numbers from 1. The only error is want of memory.
 pub fn explain_text(alloc: Global, plan: &Plan, block: &Block) -> Result<Vec<u8>, Memory>
     ensures exact { IfOk result (λ text. text.items ≡ plan_text block.now plan.now) }
     ensures utf8 { IfOk result (λ text. IsUtf8 text.items) }
@@ -34,7 +35,8 @@ fn add_lines(
     indent: &str,
     text: &mut String,
 ) -> Result<(), Memory>
-    ensures { OnOk result (string_bytes text.new ≡ string_bytes text.old ++ plan_lines block.now plan.now indent.now) }
+    ensures { OnOk result (string_bytes text.new ≡ string_bytes text.old
+        ++ plan_lines block.now plan.now indent.now) }
 {
     match plan {
         Plan::Scan(table) => add_scan(*table, block, indent, text),
@@ -65,7 +67,8 @@ fn deeper(alloc: Global, indent: &str) -> Result<String, Memory>
 }
 
 fn add_scan(table: u32, block: &Block, indent: &str, text: &mut String) -> Result<(), Memory>
-    ensures { OnOk result (string_bytes text.new ≡ string_bytes text.old ++ line indent.now (scan_text block.now table)) }
+    ensures { OnOk result (string_bytes text.new ≡ string_bytes text.old
+        ++ line indent.now (scan_text block.now table)) }
 {
     let number = u64::from(table) + 1;
     let name = table_name(block, table);
@@ -74,14 +77,16 @@ fn add_scan(table: u32, block: &Block, indent: &str, text: &mut String) -> Resul
 }
 
 fn add_join(indent: &str, text: &mut String) -> Result<(), Memory>
-    ensures { OnOk result (string_bytes text.new ≡ string_bytes text.old ++ line indent.now (codes "join")) }
+    ensures { OnOk result (string_bytes text.new ≡ string_bytes text.old
+        ++ line indent.now (codes "join")) }
 {
     write!(text, "{indent}join\n")?;
     Ok(())
 }
 
 fn add_filter(conjuncts: &[Conjunct], indent: &str, text: &mut String) -> Result<(), Memory>
-    ensures { OnOk result (string_bytes text.new ≡ string_bytes text.old ++ line indent.now (filter_text conjuncts.now)) }
+    ensures { OnOk result (string_bytes text.new ≡ string_bytes text.old
+        ++ line indent.now (filter_text conjuncts.now)) }
 {
     write!(text, "{indent}filter")?;
     add_conjuncts(conjuncts, text)?;
@@ -90,7 +95,8 @@ fn add_filter(conjuncts: &[Conjunct], indent: &str, text: &mut String) -> Result
 }
 
 fn add_conjuncts(conjuncts: &[Conjunct], text: &mut String) -> Result<(), Memory>
-    ensures { OnOk result (string_bytes text.new ≡ string_bytes text.old ++ flat_map conjunct_text conjuncts.now) }
+    ensures { OnOk result (string_bytes text.new ≡ string_bytes text.old
+        ++ flat_map conjunct_text conjuncts.now) }
 {
     for conjunct in conjuncts {
         add_conjunct(*conjunct, text)?;
@@ -99,7 +105,8 @@ fn add_conjuncts(conjuncts: &[Conjunct], text: &mut String) -> Result<(), Memory
 }
 
 fn add_conjunct(conjunct: Conjunct, text: &mut String) -> Result<(), Memory>
-    ensures { OnOk result (string_bytes text.new ≡ string_bytes text.old ++ conjunct_text conjunct) }
+    ensures { OnOk result (string_bytes text.new ≡ string_bytes text.old
+        ++ conjunct_text conjunct) }
 {
     match conjunct {
         Conjunct::Filter(position) => {
@@ -121,7 +128,8 @@ fn add_best(
     indent: &str,
     text: &mut String,
 ) -> Result<(), Memory>
-    ensures { OnOk result (string_bytes text.new ≡ string_bytes text.old ++ line indent.now (best_text block.now term.now groups.now)) }
+    ensures { OnOk result (string_bytes text.new ≡ string_bytes text.old
+        ++ line indent.now (best_text block.now term.now groups.now)) }
 {
     write!(text, "{indent}best ")?;
     add_term(term, text)?;
@@ -157,14 +165,16 @@ fn add_term(term: &Term, text: &mut String) -> Result<(), Memory>
 }
 
 fn add_leaf(number: u32, text: &mut String) -> Result<(), Memory>
-    ensures { OnOk result (string_bytes text.new ≡ string_bytes text.old ++ (codes "P" ++ decimal number)) }
+    ensures { OnOk result (string_bytes text.new ≡ string_bytes text.old
+        ++ (codes "P" ++ decimal number)) }
 {
     write!(text, "P{number}")?;
     Ok(())
 }
 
 fn add_groups(groups: &[ColumnPlace], block: &Block, text: &mut String) -> Result<(), Memory>
-    ensures { OnOk result (string_bytes text.new ≡ string_bytes text.old ++ groups_text block.now groups.now) }
+    ensures { OnOk result (string_bytes text.new ≡ string_bytes text.old
+        ++ groups_text block.now groups.now) }
 {
     if !groups.is_empty() {
         text.push_str(" by")?;
@@ -174,7 +184,8 @@ fn add_groups(groups: &[ColumnPlace], block: &Block, text: &mut String) -> Resul
 }
 
 fn add_places(groups: &[ColumnPlace], block: &Block, text: &mut String) -> Result<(), Memory>
-    ensures { OnOk result (string_bytes text.new ≡ string_bytes text.old ++ flat_map (group_text block.now) groups.now) }
+    ensures { OnOk result (string_bytes text.new ≡ string_bytes text.old
+        ++ flat_map (group_text block.now) groups.now) }
 {
     for place in groups {
         add_place(*place, block, text)?;
@@ -183,7 +194,8 @@ fn add_places(groups: &[ColumnPlace], block: &Block, text: &mut String) -> Resul
 }
 
 fn add_place(place: ColumnPlace, block: &Block, text: &mut String) -> Result<(), Memory>
-    ensures { OnOk result (string_bytes text.new ≡ string_bytes text.old ++ group_text block.now place) }
+    ensures { OnOk result (string_bytes text.new ≡ string_bytes text.old
+        ++ group_text block.now place) }
 {
     let number = u64::from(place.table) + 1;
     let name = column_name(block, place);
@@ -203,7 +215,8 @@ fn table_name(block: &Block, table: u32) -> &str
 
 /// The name of a column; an empty one where there is none.
 fn column_name(block: &Block, place: ColumnPlace) -> &str
-    ensures { result.now ≡ name_of_column (column_of (slice_get block.now.from place.table) place.column) }
+    ensures { result.now
+        ≡ name_of_column (column_of (slice_get block.now.from place.table) place.column) }
 {
     let Some(table) = block.from.as_slice().get(place.table as usize) else {
         return "";

@@ -1,4 +1,5 @@
-//! Plans of a query: what they are, what they mean, which of them are valid, and how they read as text.
+//! Plans of a query: what they are, what they mean, which of them are valid, and how they read as
+//! text.
 #![tactic(auto)]
 
 mod explain;

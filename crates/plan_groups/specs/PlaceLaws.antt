@@ -10,8 +10,12 @@ use Rattle.pref_terms.specs.declared.bound.BoundTerm.{BoundTerm}
 use Rattle.plan_groups.specs.Groups.{IsRow, row_at, seen_at}
 
 pub places_lawful : (bound : BoundTerm) (combos : List Combo)
-    → IsLawfulWhere (IsRow bound combos) (on (seen_at bound combos) ((grouped_order bound.groups.now bound.term.now).better)) (on (seen_at bound combos) ((grouped_order bound.groups.now bound.term.now).same)) (on (seen_at bound combos) (key_order bound.term.now))
+    → IsLawfulWhere (IsRow bound combos)
+    (on (seen_at bound combos) ((grouped_order bound.groups.now bound.term.now).better))
+    (on (seen_at bound combos) ((grouped_order bound.groups.now bound.term.now).same))
+    (on (seen_at bound combos) (key_order bound.term.now))
 places_lawful bound combos = record {
   among_valid = lawful_on (λ (v : Valid (IsRow bound combos)). (row_at combos v.0, v.1.1))
-      (bound_lawful bound.tables.now bound.from.now bound.first bound.term.now bound.groups.now).among_valid;
+      (bound_lawful bound.tables.now bound.from.now bound.first bound.term.now
+      bound.groups.now).among_valid;
 }

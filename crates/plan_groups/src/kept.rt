@@ -35,11 +35,20 @@ pub(crate) fn best_places<L: Ledger>(
     requires rows { All (IsRow bound.now combos.now) (map place_of members.now) }
     requires groups { All (HasGroupOf bound.now combos.now) members.now }
     requires sorted { IsSorted by_group members.now }
-    ensures exact { IfOk result (λ kept. kept.places.items ≡ best (on (seen_at bound.now combos.now) ((grouped_order bound.now.groups.now bound.now.term.now).better)) (map place_of members.now)) }
-    ensures least_tests { IfOk result (λ kept. length members.now ≤ kept.tests + length kept.places.items) }
-    ensures most_tests { IfOk result (λ kept. kept.tests ≤ within_groups (on (seen_at bound.now combos.now) (is_same_group bound.now.groups.now)) (map place_of members.now) kept.places.items) }
+    ensures exact { IfOk result
+        (λ kept. kept.places.items
+        ≡ best (on (seen_at bound.now combos.now)
+        ((grouped_order bound.now.groups.now bound.now.term.now).better))
+        (map place_of members.now)) }
+    ensures least_tests { IfOk result
+        (λ kept. length members.now ≤ kept.tests + length kept.places.items) }
+    ensures most_tests { IfOk result
+        (λ kept. kept.tests
+        ≤ within_groups (on (seen_at bound.now combos.now) (is_same_group bound.now.groups.now))
+        (map place_of members.now) kept.places.items) }
     ensures least_steps { IfOk result (λ kept. steps.old + kept.tests ≤ steps.new) }
-    ensures most_steps { IfOk result (λ kept. kept.tests < 2 ^ 64 - 1 → steps.new ≤ steps.old + kept.tests * length (leaves_of bound.now.term.now)) }
+    ensures most_steps { IfOk result (λ kept. kept.tests < 2 ^ 64 - 1
+        → steps.new ≤ steps.old + kept.tests * length (leaves_of bound.now.term.now)) }
 {
     let mut places = Vec::new(alloc);
     let mut tests: u64 = 0;
@@ -53,7 +62,8 @@ pub(crate) fn best_places<L: Ledger>(
     Ok(Kept { places, tests })
 }
 
-/// Adds the places of the best of these members, which are of one group. Gives how many tests that took.
+/// Adds the places of the best of these members, which are of one group. Gives how many tests that
+/// took.
 fn add_best<L: Ledger>(
     alloc: Global,
     bound: &BoundTerm<'_>,
@@ -63,11 +73,20 @@ fn add_best<L: Ledger>(
     steps: &mut Steps<L>,
 ) -> Result<u64, Memory>
     requires { All (IsRow bound.now combos.now) (map place_of members.now) }
-    ensures exact { OnOk result (places.new.items ≡ places.old.items ++ best (on (seen_at bound.now combos.now) ((order_of bound.now.term.now).better)) (map place_of members.now)) }
-    ensures least_tests { IfOk result (λ tests. length members.now ≤ tests + length (best (on (seen_at bound.now combos.now) ((order_of bound.now.term.now).better)) (map place_of members.now))) }
-    ensures most_tests { IfOk result (λ tests. tests ≤ length members.now * length (best (on (seen_at bound.now combos.now) ((order_of bound.now.term.now).better)) (map place_of members.now))) }
+    ensures exact { OnOk result (places.new.items ≡ places.old.items
+        ++ best (on (seen_at bound.now combos.now) ((order_of bound.now.term.now).better))
+        (map place_of members.now)) }
+    ensures least_tests { IfOk result
+        (λ tests. length members.now
+        ≤ tests + length (best (on (seen_at bound.now combos.now)
+        ((order_of bound.now.term.now).better)) (map place_of members.now))) }
+    ensures most_tests { IfOk result
+        (λ tests. tests ≤ length members.now
+        * length (best (on (seen_at bound.now combos.now) ((order_of bound.now.term.now).better))
+        (map place_of members.now))) }
     ensures least_steps { IfOk result (λ tests. steps.old + tests ≤ steps.new) }
-    ensures most_steps { IfOk result (λ tests. tests < 2 ^ 64 - 1 → steps.new ≤ steps.old + tests * length (leaves_of bound.now.term.now)) }
+    ensures most_steps { IfOk result (λ tests. tests < 2 ^ 64 - 1
+        → steps.new ≤ steps.old + tests * length (leaves_of bound.now.term.now)) }
 {
     let rows = AtPlaces {
         bound: BoundTerm {

@@ -1,4 +1,5 @@
-//! The best rows of each group, found group by group, with a count of the tests that finding them took.
+//! The best rows of each group, found group by group, with a count of the tests that finding them
+//! took.
 #![tactic(auto)]
 
 mod best;

@@ -11,7 +11,8 @@ use std::alloc::Global;
 /// So many marks, true at these places.
 pub(crate) fn marks_at(alloc: Global, count: usize, places: &[usize]) -> Result<Vec<bool>, Memory>
     requires { All (λ place. place < count) places.now }
-    ensures { IfOk result (λ marks. marks.items ≡ map (is_one_of places.now) (range_with_len 0 count)) }
+    ensures { IfOk result
+        (λ marks. marks.items ≡ map (is_one_of places.now) (range_with_len 0 count)) }
 {
     let mut marks = vec![in alloc; false; count]?;
     for place in places {

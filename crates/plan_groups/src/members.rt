@@ -31,7 +31,8 @@ pub(crate) fn members<'t>(
     combos: &[Combo],
 ) -> Result<Vec<Member<'t>>, Memory>
     requires { All (AreInSight bound.now) combos.now }
-    ensures places { IfOk result (λ members. map place_of members.items ≡ range_with_len 0 (length combos.now)) }
+    ensures places { IfOk result
+        (λ members. map place_of members.items ≡ range_with_len 0 (length combos.now)) }
     ensures groups { IfOk result (λ members. All (HasGroupOf bound.now combos.now) members.items) }
 {
     let mut members = Vec::new(alloc);
@@ -51,7 +52,8 @@ fn group_key<'t>(
     combo: &Combo,
 ) -> Result<Vec<Cell<'t>>, Memory>
     requires { AreInSight bound.now combo.now }
-    ensures { IfOk result (λ key. map value_of key.items ≡ map (seen_by bound.now combo.now) bound.now.groups.now) }
+    ensures { IfOk result
+        (λ key. map value_of key.items ≡ map (seen_by bound.now combo.now) bound.now.groups.now) }
 {
     let mut key = Vec::new(alloc);
     for place in bound.groups {
@@ -96,8 +98,12 @@ pub(crate) fn run_length(members: &[Member<'_>]) -> usize
     requires { 0 < length members.now }
     ensures some { 0 < result }
     ensures bounded { result ≤ length members.now }
-    ensures one_group { (k : ℕ) (d : Member) → k < result → is_eq (by_group (slice_index_or members.now 0 d) (slice_index_or members.now k d)) ≡ true }
-    ensures ends { (d : Member) → result < length members.now → is_eq (by_group (slice_index_or members.now 0 d) (slice_index_or members.now result d)) ≡ false }
+    ensures one_group { (k : ℕ) (d : Member) → k < result
+        → is_eq (by_group (slice_index_or members.now 0 d) (slice_index_or members.now k d))
+        ≡ true }
+    ensures ends { (d : Member) → result < length members.now
+        → is_eq (by_group (slice_index_or members.now 0 d) (slice_index_or members.now result d))
+        ≡ false }
 {
     let first = &members[0];
     for (place, member) in members.iter().enumerate() {

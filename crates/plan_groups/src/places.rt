@@ -36,11 +36,14 @@ impl Preference for AtPlaces<'_> {
 
     ghost valid = { λ pref place. IsRow pref.bound pref.combos.now place };
 
-    ghost better = { λ pref. on (seen_at pref.bound pref.combos.now) ((grouped_order pref.bound.groups.now pref.bound.term.now).better) };
+    ghost better = { λ pref. on (seen_at pref.bound pref.combos.now)
+        ((grouped_order pref.bound.groups.now pref.bound.term.now).better) };
 
-    ghost same = { λ pref. on (seen_at pref.bound pref.combos.now) ((grouped_order pref.bound.groups.now pref.bound.term.now).same) };
+    ghost same = { λ pref. on (seen_at pref.bound pref.combos.now)
+        ((grouped_order pref.bound.groups.now pref.bound.term.now).same) };
 
-    ghost key_cmp = { λ pref. on (seen_at pref.bound pref.combos.now) (key_order pref.bound.term.now) };
+    ghost key_cmp = { λ pref.
+        on (seen_at pref.bound pref.combos.now) (key_order pref.bound.term.now) };
 
     ghost width = { λ pref. length (leaves_of pref.bound.term.now) };
 

@@ -12,11 +12,16 @@ use query_meaning::Block;
 /// The plan of each stage gives the kept rows of the block, over every set of tables.
 pub fn stages_give_kept_rows(block: &Block)
     requires { IsValidBlock block.now }
-    ensures first { (tables : Tables) → plan_rows tables block.now (first_plan block.now) ≡ kept_rows tables block.now }
-    ensures filters_lowered { (tables : Tables) → plan_rows tables block.now (where_plan block.now) ≡ kept_rows tables block.now }
-    ensures only_lowered { (tables : Tables) → plan_rows tables block.now (only_plan block.now) ≡ kept_rows tables block.now }
-    ensures prefiltered { (tables : Tables) → plan_rows tables block.now (prefilter_plan block.now) ≡ kept_rows tables block.now }
-    ensures split { (tables : Tables) → plan_rows tables block.now (block_plan block.now) ≡ kept_rows tables block.now }
+    ensures first { (tables : Tables) → plan_rows tables block.now (first_plan block.now)
+        ≡ kept_rows tables block.now }
+    ensures filters_lowered { (tables : Tables) → plan_rows tables block.now (where_plan block.now)
+        ≡ kept_rows tables block.now }
+    ensures only_lowered { (tables : Tables) → plan_rows tables block.now (only_plan block.now)
+        ≡ kept_rows tables block.now }
+    ensures prefiltered { (tables : Tables) → plan_rows tables block.now (prefilter_plan block.now)
+        ≡ kept_rows tables block.now }
+    ensures split { (tables : Tables) → plan_rows tables block.now (block_plan block.now)
+        ≡ kept_rows tables block.now }
 {}
 
 /// The plan of each stage is valid for the block.

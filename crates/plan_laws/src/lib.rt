@@ -1,4 +1,5 @@
-//! Laws of the plans of a query, stage by stage: each gives the query's kept rows, and each is valid.
+//! Laws of the plans of a query, stage by stage: each gives the query's kept rows, and each is
+//! valid.
 #![tactic(auto)]
 
 mod laws;

@@ -15,13 +15,14 @@ use prefsql_values::Memory;
 use query_meaning::Block;
 use std::alloc::Global;
 
-/// The plan of a query: conditions at their lowest nodes, tables reduced before they are joined, and the preference taken
-/// apart. It gives the kept rows. The only error is want of memory.
+/// The plan of a query: conditions at their lowest nodes, tables reduced before they are joined,
+/// and the preference taken apart. It gives the kept rows. The only error is want of memory.
 pub fn optimise(alloc: Global, block: &Block) -> Result<Plan, Memory>
     requires { IsValidBlock block.now }
     ensures exact { IfOk result (λ plan. plan ≡ block_plan block.now) }
     ensures valid { IfOk result (IsPlanOf block.now) }
-    ensures meaning { IfOk result (λ plan. (tables : Tables) → plan_rows tables block.now plan ≡ kept_rows tables block.now) }
+    ensures meaning { IfOk result
+        (λ plan. (tables : Tables) → plan_rows tables block.now plan ≡ kept_rows tables block.now) }
 {
     let plan = start_plan(alloc, block)?;
     let plan = lower_filters(alloc, plan, block)?;

@@ -1,6 +1,7 @@
 -- What the rules do to a plan, node by node. That they lead from each stage to the next is proved.
 -- They are this project's own.
-use Rattle.std.specs.Prelude.{ℕ, Bool, true, false, nat_eq, ◌||◌, Option, Some, None, List, if◌then◌else◌}
+use Rattle.std.specs.Prelude.{ℕ, Bool, true, false, nat_eq, ◌||◌, Option, Some, None, List}
+use Rattle.std.specs.Prelude.{if◌then◌else◌}
 use Rattle.query_meaning.specs.declared.block.Block.{Block}
 use Rattle.plan_algebra.specs.declared.plan.Conjunct.{Conjunct}
 use Rattle.plan_algebra.specs.declared.plan.Plan.{Plan, fold-Plan}
@@ -8,7 +9,8 @@ use Rattle.plan_algebra.specs.declared.plan.Plan as plan
 use Rattle.plan_algebra.specs.declared.plan.Plan.TheOpen.{Plan-F}
 use Rattle.plan_stages.specs.Placing.{at_join, at_scan}
 use Rattle.plan_stages.specs.Separation.{cascade_of}
-use Rattle.plan_stages.specs.Stages.{best_above, bests_above, filtered, joins_of, table_groups, table_term}
+use Rattle.plan_stages.specs.Stages.{best_above, bests_above, filtered, joins_of, table_groups}
+use Rattle.plan_stages.specs.Stages.{table_term}
 
 -- the last of the tables that a plan stands for
 abbrev pub last_step : Plan-F ℕ → ℕ

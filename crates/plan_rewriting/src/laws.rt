@@ -9,8 +9,10 @@ use query_meaning::Block;
 
 /// What each rule does to the plan of its stage gives the plan of the next.
 pub fn rules_lead_on(block: &Block)
-    ensures filters { filtered (onlys block.now) (placed block.now (wheres block.now) (first_plan block.now)) ≡ where_plan block.now }
-    ensures only { filtered (staying block.now) (placed block.now (lowered block.now) (where_plan block.now)) ≡ only_plan block.now }
+    ensures filters { filtered (onlys block.now)
+        (placed block.now (wheres block.now) (first_plan block.now)) ≡ where_plan block.now }
+    ensures only { filtered (staying block.now)
+        (placed block.now (lowered block.now) (where_plan block.now)) ≡ only_plan block.now }
     ensures prefilters { prefiltered block.now (only_plan block.now) ≡ prefilter_plan block.now }
     ensures cascades { split block.now (prefilter_plan block.now) ≡ block_plan block.now }
 {}

@@ -51,7 +51,8 @@ fn placed_scan(
     block: &Block,
     conjuncts: &[Conjunct],
 ) -> Result<Plan, Memory>
-    ensures { IfOk result (λ p. p ≡ filtered (at_scan block.now conjuncts.now table) (plan.Scan table)) }
+    ensures { IfOk result
+        (λ p. p ≡ filtered (at_scan block.now conjuncts.now table) (plan.Scan table)) }
 {
     let here = at_scan(alloc, block, conjuncts, table)?;
     filtered(alloc, here, Plan::Scan(table))
@@ -65,7 +66,9 @@ fn placed_join(
     block: &Block,
     conjuncts: &[Conjunct],
 ) -> Result<Plan, Memory>
-    ensures { IfOk result (λ p. p ≡ filtered (at_join block.now conjuncts.now (last_of right)) (plan.Join left right)) }
+    ensures { IfOk result
+        (λ p. p ≡ filtered (at_join block.now conjuncts.now (last_of right))
+        (plan.Join left right)) }
 {
     let here = at_join(alloc, block, conjuncts, last_of(&right))?;
     let join = join(alloc, left, right)?;
@@ -97,7 +100,8 @@ pub fn placed(
     }
 }
 
-/// The best rows of a table's plan by the table's part of the preference; a plan with a join as it is.
+/// The best rows of a table's plan by the table's part of the preference; a plan with a join as it
+/// is.
 fn reduced(alloc: Global, plan: Plan, block: &Block) -> Result<Plan, Memory>
     requires { IsValidBlock block.now }
     ensures { IfOk result (λ p. p ≡ reduced block.now plan) }
@@ -161,7 +165,9 @@ fn split_best(
     below: Plan,
     block: &Block,
 ) -> Result<Plan, Memory>
-    ensures { IfOk result (λ p. p ≡ if is_whole block.now below then bests_above (cascade_of term.now) groups.now below else plan.Best term.now groups.now below) }
+    ensures { IfOk result (λ p. p ≡ if is_whole block.now below
+        then bests_above (cascade_of term.now) groups.now below
+        else plan.Best term.now groups.now below) }
 {
     if is_whole(&below, block) {
         let terms = cascade(alloc, term)?;

@@ -1,5 +1,5 @@
-//! The first plan of a query, and the rules that lead from it to its last one. Each gives exactly the plan of its stage,
-//! which means what the plan before it meant.
+//! The first plan of a query, and the rules that lead from it to its last one. Each gives exactly
+//! the plan of its stage, which means what the plan before it meant.
 #![tactic(auto)]
 
 mod rules;

@@ -14,13 +14,15 @@ use prefsql_values::{List, Memory};
 use query_meaning::Block;
 use std::alloc::Global;
 
-/// The first plan of a block: the scans of its tables joined in their order, all conditions of WHERE above the joins, the
-/// preference above them, and all conditions of BUT ONLY on top. It gives the kept rows. The only error is want of memory.
+/// The first plan of a block: the scans of its tables joined in their order, all conditions of
+/// WHERE above the joins, the preference above them, and all conditions of BUT ONLY on top. It
+/// gives the kept rows. The only error is want of memory.
 pub fn start_plan(alloc: Global, block: &Block) -> Result<Plan, Memory>
     requires { IsValidBlock block.now }
     ensures exact { IfOk result (λ plan. plan ≡ first_plan block.now) }
     ensures valid { IfOk result (IsPlanOf block.now) }
-    ensures meaning { IfOk result (λ plan. (tables : Tables) → plan_rows tables block.now plan ≡ kept_rows tables block.now) }
+    ensures meaning { IfOk result
+        (λ plan. (tables : Tables) → plan_rows tables block.now plan ≡ kept_rows tables block.now) }
 {
     let joins = joined_scans(alloc, block.from.as_slice().len() as u32)?;
     let wheres = List::of(wheres(alloc, block)?);
@@ -30,8 +32,8 @@ pub fn start_plan(alloc: Global, block: &Block) -> Result<Plan, Memory>
     filtered(alloc, onlys, best)
 }
 
-/// The rule that moves each condition of WHERE to the lowest node that has all its tables. The plan means what it meant.
-/// After want of memory the plan given in is dropped.
+/// The rule that moves each condition of WHERE to the lowest node that has all its tables. The plan
+/// means what it meant. After want of memory the plan given in is dropped.
 pub fn lower_filters(alloc: Global, plan: Plan, block: &Block) -> Result<Plan, Memory>
     requires block { IsValidBlock block.now }
     requires stage { plan ≡ first_plan block.now }
@@ -45,7 +47,8 @@ pub fn lower_filters(alloc: Global, plan: Plan, block: &Block) -> Result<Plan, M
     filtered(alloc, onlys, lowered)
 }
 
-/// The rule that moves those conditions of BUT ONLY down that hold of what is better than a row of which they hold.
+/// The rule that moves those conditions of BUT ONLY down that hold of what is better than a row of
+/// which they hold.
 pub fn lower_only(alloc: Global, plan: Plan, block: &Block) -> Result<Plan, Memory>
     requires block { IsValidBlock block.now }
     requires stage { plan ≡ where_plan block.now }
@@ -59,8 +62,9 @@ pub fn lower_only(alloc: Global, plan: Plan, block: &Block) -> Result<Plan, Memo
     filtered(alloc, staying, lowered)
 }
 
-/// The rule that drops rows of a table before the joins: those that another row of the table is better than, by the part of
-/// the preference that stands on the table, among rows that the rest of the query can't tell apart.
+/// The rule that drops rows of a table before the joins: those that another row of the table is
+/// better than, by the part of the preference that stands on the table, among rows that the rest of
+/// the query can't tell apart.
 pub fn add_prefilters(alloc: Global, plan: Plan, block: &Block) -> Result<Plan, Memory>
     requires block { IsValidBlock block.now }
     requires stage { plan ≡ only_plan block.now }
@@ -71,8 +75,8 @@ pub fn add_prefilters(alloc: Global, plan: Plan, block: &Block) -> Result<Plan, 
     prefiltered(alloc, &plan, block)
 }
 
-/// The rule that takes the preference apart: where its first part ranks all rows, the best are taken by it and then by the
-/// rest.
+/// The rule that takes the preference apart: where its first part ranks all rows, the best are
+/// taken by it and then by the rest.
 pub fn split_cascades(alloc: Global, plan: Plan, block: &Block) -> Result<Plan, Memory>
     requires block { IsValidBlock block.now }
     requires stage { plan ≡ prefilter_plan block.now }

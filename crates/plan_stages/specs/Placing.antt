@@ -16,8 +16,8 @@ abbrev pub is_joint : List ColumnPlace → Bool
 is_joint places =
     list_any (λ (place : ColumnPlace). not (nat_eq place.table (last_table places))) places
 
--- the lowest node that has all tables of the condition: the scan of its table, or the join that adds
--- its last one
+-- the lowest node that has all tables of the condition: the scan of its table, or the join that
+-- adds its last one
 abbrev pub is_at_scan : Block → ℕ → Conjunct → Bool
 is_at_scan block table c =
     nat_eq (last_table (places_of block c)) table && not (is_joint (places_of block c))

@@ -15,7 +15,8 @@ ranks_step (Term-F.Prior p q) = false
 abbrev pub ranks_all : Term → Bool
 ranks_all = fold-Term Bool ranks_step
 
--- each of the first parts that ranks all, but not the last part, by itself; then the rest as one term
+-- each of the first parts that ranks all, but not the last part, by itself; then the rest as one
+-- term
 abbrev pub separated : List Term → List Term
 separated [] = []
 separated (part ∷ []) = part ∷ []

@@ -1,6 +1,7 @@
--- Which conditions of BUT ONLY may be asked before the preference: those that hold of what is better
--- than a row of which they hold. This is this project's own.
-use Rattle.std.specs.Prelude.{ℕ, Bool, true, false, not, nat_eq, ◌&&◌, ◌||◌, Option, Some, List, ◌++◌, filter}
+-- Which conditions of BUT ONLY may be asked before the preference: those that hold of what is
+-- better than a row of which they hold. This is this project's own.
+use Rattle.std.specs.Prelude.{ℕ, Bool, true, false, not, nat_eq, ◌&&◌, ◌||◌, Option, Some, List}
+use Rattle.std.specs.Prelude.{◌++◌, filter}
 use Rattle.std.specs.List.{list_all, list_any}
 use Rattle.prefsql_values.specs.declared.value.CompareOp.{CompareOp}
 use Rattle.prefsql_values.specs.declared.value.CompareOp.TheVariants.{Lt, Le}

@@ -52,7 +52,8 @@ fn nested(alloc: Global, first: Term, parts: &[Term]) -> Result<Term, Memory>
     Ok(term)
 }
 
-/// Adds each of the first parts that ranks all, but not the last part, and then the rest as one term.
+/// Adds each of the first parts that ranks all, but not the last part, and then the rest as one
+/// term.
 fn add_separated(alloc: Global, parts: &[Term], terms: &mut Vec<Term>) -> Result<(), Memory>
     ensures { OnOk result (terms.new.items ≡ terms.old.items ++ separated parts.now) }
 {

@@ -49,7 +49,8 @@ fn add_scalar_places(scalar: &Scalar, places: &mut Vec<ColumnPlace>) -> Result<(
 
 /// Adds the columns that the scalars of a list read.
 fn add_list_places(scalars: &[Scalar], places: &mut Vec<ColumnPlace>) -> Result<(), Memory>
-    ensures { OnOk result (places.new.items ≡ places.old.items ++ flat_map scalar_places scalars.now) }
+    ensures { OnOk result (places.new.items ≡ places.old.items
+        ++ flat_map scalar_places scalars.now) }
 {
     for scalar in scalars {
         add_scalar_places(scalar, places)?;

@@ -1,4 +1,5 @@
-//! The preference over one table alone, and the groups within which it may be asked before the joins.
+//! The preference over one table alone, and the groups within which it may be asked before the
+//! joins.
 ghost use Rattle.std.specs.Prelude.{◌≡◌, ◌++◌, length, IfOk};
 ghost use Rattle.query_meaning.specs.BlockFits.{columns_from};
 ghost use Rattle.query_meaning.specs.Valid.{IsValidBlock};
@@ -20,7 +21,8 @@ fn needed_places(
     block: &Block,
     conjuncts: &[Conjunct],
 ) -> Result<Vec<ColumnPlace>, Memory>
-    ensures { IfOk result (λ places. places.items ≡ block.now.groups ++ joint_places block.now conjuncts.now) }
+    ensures { IfOk result
+        (λ places. places.items ≡ block.now.groups ++ joint_places block.now conjuncts.now) }
 {
     let mut needed = Vec::new(alloc);
     for place in block.groups.as_slice() {

@@ -1,4 +1,5 @@
-//! The plans of a query, stage by stage: what stands where in them, and the pieces that they are made of.
+//! The plans of a query, stage by stage: what stands where in them, and the pieces that they are
+//! made of.
 #![tactic(auto)]
 
 mod cascades;

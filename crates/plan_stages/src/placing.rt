@@ -10,7 +10,8 @@ use prefsql_values::{List, Memory};
 use query_meaning::Block;
 use std::alloc::Global;
 
-/// The lowest node that has all tables of a condition: the scan of its last table, or the join that adds it.
+/// The lowest node that has all tables of a condition: the scan of its last table, or the join that
+/// adds it.
 #[derive(Clone, Copy, Debug)]
 struct LowestNode {
     table: u32,

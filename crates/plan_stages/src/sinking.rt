@@ -106,14 +106,16 @@ fn are_both(groups: &[ColumnPlace], a: &Scalar, b: &Scalar) -> bool
 
 /// Whether all three scalars are.
 fn are_all_three(groups: &[ColumnPlace], a: &Scalar, low: &Scalar, high: &Scalar) -> bool
-    ensures { result ≡ (is_group_scalar groups.now a.now && (is_group_scalar groups.now low.now && is_group_scalar groups.now high.now)) }
+    ensures { result ≡ (is_group_scalar groups.now a.now
+        && (is_group_scalar groups.now low.now && is_group_scalar groups.now high.now)) }
 {
     is_group_scalar(groups, a) && are_both(groups, low, high)
 }
 
 /// Whether the scalar and each one of a list are.
 fn is_with_list(groups: &[ColumnPlace], a: &Scalar, list: &[Scalar]) -> bool
-    ensures { result ≡ (is_group_scalar groups.now a.now && list_all (is_group_scalar groups.now) list.now) }
+    ensures { result ≡ (is_group_scalar groups.now a.now
+        && list_all (is_group_scalar groups.now) list.now) }
 {
     is_group_scalar(groups, a) && are_group_scalars(groups, list)
 }

@@ -1,6 +1,6 @@
 -- What makes a combination better by a term, or the same: said by recursion on the term, with the
--- relation of each base preference at the leaves (Pareto and prioritised preferences: Kießling, VLDB
--- 2002).
+-- relation of each base preference at the leaves (Pareto and prioritised preferences: Kießling,
+-- VLDB 2002).
 use Rattle.std.specs.Prelude.{◌⊎◌}
 use Rattle.std.proofs.Common.{Decides}
 use Rattle.prefsql_tables.specs.Sight.{Sight}

@@ -1,5 +1,5 @@
--- The parts of a prioritised term, which come one before the other (prioritised preference: Kießling,
--- VLDB 2002). That they are taken apart is this project's own.
+-- The parts of a prioritised term, which come one before the other (prioritised preference:
+-- Kießling, VLDB 2002). That they are taken apart is this project's own.
 use Rattle.std.specs.Prelude.{List, [], ◌∷◌, ◌++◌}
 use Rattle.pref_terms.specs.declared.term.Term.{Term, Pareto, Prior, fold-Term}
 use Rattle.pref_terms.specs.declared.term.Term as term

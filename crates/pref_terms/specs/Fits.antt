@@ -1,4 +1,5 @@
--- Which combinations of rows a term judges: a matter of tables, columns and numbers, and not of what the cells hold.
+-- Which combinations of rows a term judges: a matter of tables, columns and numbers, and not of
+-- what the cells hold.
 use Rattle.std.specs.Prelude.{ℕ, ◌≡◌, true, List, All, slice_index}
 use Rattle.std.specs.List.{HoldsAt}
 use Rattle.prefsql_tables.specs.declared.schema.Column.{Column}
@@ -19,7 +20,8 @@ module _ (tables : Tables) (from : List ℕ) (first : ℕ) (rows : List ℕ) whe
   -- the leaf's place is in the combination, and its column can be ranked
   pub record LeafFits (leaf : Leaf) : Type 0 where
     pub in_sight : IsInSight tables from first rows leaf.place
-    pub rankable : HoldsAt (λ (column : Column). IsRankable leaf.base column.domain column.nullable) (columns_of tables (slice_index from leaf.place.table)) leaf.place.column
+    pub rankable : HoldsAt (λ (column : Column). IsRankable leaf.base column.domain column.nullable)
+        (columns_of tables (slice_index from leaf.place.table)) leaf.place.column
     pub trivial : IsTrivialIfExplicit leaf
 
   -- every leaf of the term fits

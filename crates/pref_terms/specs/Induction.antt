@@ -9,19 +9,30 @@ use Rattle.pref_terms.specs.declared.term.Term.TheViews.{rolls-Leaf, rolls-Paret
 
 module _ (A : Type 0) (step : Term-F A → A) where
   pub fold-Leaf : (leaf : Leaf) → fold-Term A step (term.Leaf leaf) ≡ step (Term-F.Leaf leaf)
-  fold-Leaf leaf = ap (fold-Term A step) (sym (rolls-Leaf leaf)) ∙ fold-roll-Term A step (Term-F.Leaf leaf)
+  fold-Leaf leaf = ap (fold-Term A step) (sym (rolls-Leaf leaf))
+      ∙ fold-roll-Term A step (Term-F.Leaf leaf)
 
-  pub fold-Pareto : (p q : Term) → fold-Term A step (Pareto p q) ≡ step (Term-F.Pareto (fold-Term A step p) (fold-Term A step q))
-  fold-Pareto p q = ap (fold-Term A step) (sym (rolls-Pareto p q)) ∙ fold-roll-Term A step (Term-F.Pareto p q)
+  pub fold-Pareto : (p q : Term) → fold-Term A step (Pareto p q)
+      ≡ step (Term-F.Pareto (fold-Term A step p) (fold-Term A step q))
+  fold-Pareto p q = ap (fold-Term A step) (sym (rolls-Pareto p q))
+      ∙ fold-roll-Term A step (Term-F.Pareto p q)
 
-  pub fold-Prior : (p q : Term) → fold-Term A step (Prior p q) ≡ step (Term-F.Prior (fold-Term A step p) (fold-Term A step q))
-  fold-Prior p q = ap (fold-Term A step) (sym (rolls-Prior p q)) ∙ fold-roll-Term A step (Term-F.Prior p q)
+  pub fold-Prior : (p q : Term)
+      → fold-Term A step (Prior p q) ≡ step (Term-F.Prior (fold-Term A step p) (fold-Term A step q))
+  fold-Prior p q = ap (fold-Term A step) (sym (rolls-Prior p q))
+      ∙ fold-roll-Term A step (Term-F.Prior p q)
 
-module _ (P : Term → Type 0) (at_leaf : (leaf : Leaf) → P (term.Leaf leaf)) (at_pareto : (p q : Term) → P p → P q → P (Pareto p q)) (at_prior : (p q : Term) → P p → P q → P (Prior p q)) where
+module _ (P : Term → Type 0) (at_leaf : (leaf : Leaf) → P (term.Leaf leaf))
+    (at_pareto : (p q : Term) → P p → P q → P (Pareto p q)) (at_prior : (p q : Term) → P p → P q
+    → P (Prior p q)) where
   -- what holds of a leaf, and of a term where it holds of both parts, holds of every term
   pub term_induction : (t : Term) → P t
-  term_induction = ind-Term P (λ x y is. elim y as (λ z. term.map-Term _ Term (λ e. e.0) z ≡ x → P (term.roll-Term x)) [
-    | Term-F.Leaf leaf ↦ λ same. subst (λ z. P (term.roll-Term z)) same (subst P (sym (rolls-Leaf leaf)) (at_leaf leaf))
-    | Term-F.Pareto p q ↦ λ same. subst (λ z. P (term.roll-Term z)) same (subst P (sym (rolls-Pareto p.0 q.0)) (at_pareto p.0 q.0 p.1 q.1))
-    | Term-F.Prior p q ↦ λ same. subst (λ z. P (term.roll-Term z)) same (subst P (sym (rolls-Prior p.0 q.0)) (at_prior p.0 q.0 p.1 q.1))
-  ] is)
+  term_induction = ind-Term P (λ x y is. elim y as (λ z. term.map-Term _ Term (λ e. e.0) z ≡ x
+      → P (term.roll-Term x)) [
+        | Term-F.Leaf leaf ↦ λ same.
+            subst (λ z. P (term.roll-Term z)) same (subst P (sym (rolls-Leaf leaf)) (at_leaf leaf))
+        | Term-F.Pareto p q ↦ λ same. subst (λ z. P (term.roll-Term z)) same
+            (subst P (sym (rolls-Pareto p.0 q.0)) (at_pareto p.0 q.0 p.1 q.1))
+        | Term-F.Prior p q ↦ λ same. subst (λ z. P (term.roll-Term z)) same
+            (subst P (sym (rolls-Prior p.0 q.0)) (at_prior p.0 q.0 p.1 q.1))
+      ] is)

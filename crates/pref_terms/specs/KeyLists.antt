@@ -5,7 +5,8 @@ use Rattle.std.specs.Cmp.Lexicographic.{slice_cmp}
 use Rattle.std.specs.declared.cmp.Ordering.{Ordering}
 use Rattle.std.specs.declared.cmp.Ordering.TheVariants.{Less, Equal, Greater}
 
-pub then_then : (a b c : Ordering) → ordering_then a (ordering_then b c) ≡ ordering_then (ordering_then a b) c
+pub then_then : (a b c : Ordering) → ordering_then a (ordering_then b c)
+    ≡ ordering_then (ordering_then a b) c
 then_then Less b c = refl
 then_then Equal b c = refl
 then_then Greater b c = refl
@@ -15,7 +16,9 @@ then_Equal Less = refl
 then_Equal Equal = refl
 then_Equal Greater = refl
 
-pub slice_cmp-append : (xs ys us vs : List ℤ) → length xs ≡ length ys → slice_cmp int_cmp (xs ++ us) (ys ++ vs) ≡ ordering_then (slice_cmp int_cmp xs ys) (slice_cmp int_cmp us vs)
+pub slice_cmp-append : (xs ys us vs : List ℤ) → length xs ≡ length ys
+    → slice_cmp int_cmp (xs ++ us) (ys ++ vs)
+    ≡ ordering_then (slice_cmp int_cmp xs ys) (slice_cmp int_cmp us vs)
 slice_cmp-append [] [] us vs e = refl
 slice_cmp-append [] (y ∷ ys) us vs e = absurd (omega arith)
 slice_cmp-append (x ∷ xs) [] us vs e = absurd (omega arith)

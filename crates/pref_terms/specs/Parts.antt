@@ -1,5 +1,7 @@
--- What is left of a term over one table, and which of its leaves are closed. Both are this project's own.
-use Rattle.std.specs.Prelude.{ℕ, Bool, nat_eq, Option, Some, None, List, [], ◌∷◌, ◌++◌, if◌then◌else◌}
+-- What is left of a term over one table, and which of its leaves are closed. Both are this
+-- project's own.
+use Rattle.std.specs.Prelude.{ℕ, Bool, nat_eq, Option, Some, None, List, [], ◌∷◌, ◌++◌}
+use Rattle.std.specs.Prelude.{if◌then◌else◌}
 use Rattle.pref_terms.specs.declared.term.Leaf.{Leaf}
 use Rattle.pref_terms.specs.declared.term.Term.{Term, Pareto, Prior, fold-Term}
 use Rattle.pref_terms.specs.declared.term.Term as term
@@ -26,7 +28,8 @@ restrict_step table (Term-F.Leaf leaf) = if is_on table leaf then Some (term.Lea
 restrict_step table (Term-F.Pareto p q) = pareto_left p q
 restrict_step table (Term-F.Prior p q) = prior_left p q
 
--- the term without the leaves of other tables: a constructor that loses one part becomes the other part
+-- the term without the leaves of other tables: a constructor that loses one part becomes the other
+-- part
 abbrev pub restricted : ℕ → Term → Option Term
 restricted table = fold-Term (Option Term) (restrict_step table)
 
@@ -40,6 +43,7 @@ closed_step (Term-F.Leaf leaf) = leaf.number ∷ []
 closed_step (Term-F.Pareto p q) = p ++ q
 closed_step (Term-F.Prior p q) = p
 
--- the numbers of the leaves that are reached through Pareto nodes and first parts of prioritised nodes alone
+-- the numbers of the leaves that are reached through Pareto nodes and first parts of prioritised
+-- nodes alone
 abbrev pub closed_numbers : Term → List ℕ
 closed_numbers = fold-Term (List ℕ) closed_step

@@ -1,4 +1,5 @@
--- Which of two combinations of rows is better by a term (Pareto and prioritised preferences, and preferences within groups:
+-- Which of two combinations of rows is better by a term (Pareto and prioritised preferences, and
+-- preferences within groups:
 -- Kießling, VLDB 2002).
 use Rattle.std.specs.Prelude.{ℕ, ℤ, Bool, List, [], ◌∷◌, ◌++◌, map}
 use Rattle.std.specs.List.{list_all}
@@ -28,13 +29,20 @@ leaf_order leaf = record {
   same = λ y x. same_of leaf.base leaf.trivial (y leaf.place) (x leaf.place);
 }
 
--- one level of a term, with the order of each part in its place: by a Pareto term a combination is better where it is
--- better by one part, and better or the same by the other; by a prioritised one where it is better by the first, or the
--- same by it and better by the second; by both two are the same where they are the same by both parts
+-- one level of a term, with the order of each part in its place: by a Pareto term a combination is
+-- better where it is better by one part, and better or the same by the other; by a prioritised one
+-- where it is better by the first, or the same by it and better by the second; by both two are the
+-- same where they are the same by both parts
 abbrev pub order_step : Term-F Order → Order
 order_step (Term-F.Leaf leaf) = leaf_order leaf
-order_step (Term-F.Pareto p q) = record { better = pareto_better p.better p.same q.better q.same; same = eq_of_both p.same q.same }
-order_step (Term-F.Prior p q) = record { better = prior_better p.better p.same q.better; same = eq_of_both p.same q.same }
+order_step (Term-F.Pareto p q) = record {
+  better = pareto_better p.better p.same q.better q.same;
+  same = eq_of_both p.same q.same;
+}
+order_step (Term-F.Prior p q) = record {
+  better = prior_better p.better p.same q.better;
+  same = eq_of_both p.same q.same;
+}
 
 -- the order of a term
 abbrev pub order_of : Term → Order
@@ -61,7 +69,8 @@ key_order term = on (keys_of term) (slice_cmp int_cmp)
 abbrev pub is_same_group : List ColumnPlace → Sight → Sight → Bool
 is_same_group groups y x = list_all (λ place. value_eq (y place) (x place)) groups
 
--- the order of a term within the groups: combinations of different groups are neither better nor the same
+-- the order of a term within the groups: combinations of different groups are neither better nor
+-- the same
 abbrev pub grouped_order : List ColumnPlace → Term → Order
 grouped_order groups term = record {
   better = eq_of_both (is_same_group groups) ((order_of term).better);

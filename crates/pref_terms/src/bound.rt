@@ -16,11 +16,12 @@ use prefsql_values::{Cell, Steps, not_distinct};
 use std::cmp::Ordering;
 use std::sync::ledger::Ledger;
 
-/// A term over the combinations of rows of some FROM tables that stand in a row, within groups: combinations of
-/// different groups are neither better nor the same.
+/// A term over the combinations of rows of some FROM tables that stand in a row, within groups:
+/// combinations of different groups are neither better nor the same.
 ///
-/// It judges combinations that have a row for each place of the term and of the groups, where every column of a leaf
-/// admits no NULL, AROUND, BETWEEN, LOWEST and HIGHEST stand on columns of numbers, and an EXPLICIT leaf is trivial.
+/// It judges combinations that have a row for each place of the term and of the groups, where every
+/// column of a leaf admits no NULL, AROUND, BETWEEN, LOWEST and HIGHEST stand on columns of
+/// numbers, and an EXPLICIT leaf is trivial.
 #[derive(Drop)]
 pub struct BoundTerm<'t> {
     /// The tables.
@@ -39,8 +40,10 @@ impl BoundTerm<'_> {
     /// The cell that a combination has in the leaf's column.
     #[tactic(auto, using(crate::proofs::Judged::fits_judged))]
     fn leaf_cell(&self, leaf: &Leaf, combo: &Combo) -> Cell<'_>
-        requires { LeafFits self.now.tables.now self.now.from.now self.now.first combo.now.rows leaf.now }
-        ensures value { value_of result ≡ shown self.now.tables.now self.now.from.now self.now.first combo.now leaf.now.place }
+        requires { LeafFits self.now.tables.now self.now.from.now self.now.first combo.now.rows
+            leaf.now }
+        ensures value { value_of result
+            ≡ shown self.now.tables.now self.now.from.now self.now.first combo.now leaf.now.place }
         ensures judged { IsJudged leaf.now.base (value_of result) }
     {
         self.tables.keeps_limits();
@@ -55,9 +58,14 @@ impl BoundTerm<'_> {
         b: &Combo,
         steps: &mut Steps<L>,
     ) -> Standing
-        requires a_fits { LeafFits self.now.tables.now self.now.from.now self.now.first a.now.rows leaf.now }
-        requires b_fits { LeafFits self.now.tables.now self.now.from.now self.now.first b.now.rows leaf.now }
-        ensures standing { result ≡ standing_of (leaf_order leaf.now) (shown self.now.tables.now self.now.from.now self.now.first a.now) (shown self.now.tables.now self.now.from.now self.now.first b.now) }
+        requires a_fits { LeafFits self.now.tables.now self.now.from.now self.now.first a.now.rows
+            leaf.now }
+        requires b_fits { LeafFits self.now.tables.now self.now.from.now self.now.first b.now.rows
+            leaf.now }
+        ensures standing { result
+            ≡ standing_of (leaf_order leaf.now)
+            (shown self.now.tables.now self.now.from.now self.now.first a.now)
+            (shown self.now.tables.now self.now.from.now self.now.first b.now) }
         ensures one_step { steps.new ≡ steps.old + 1 }
     {
         steps.tick();
@@ -66,7 +74,8 @@ impl BoundTerm<'_> {
         ranking::value_standing(&leaf.base, leaf.trivial, a, b)
     }
 
-    /// How `a` stands to `b` by the term. The second part is asked only where the first leaves it open.
+    /// How `a` stands to `b` by the term. The second part is asked only where the first leaves it
+    /// open.
     #[tactic(auto, using(crate::proofs::Standings::standings))]
     fn standing<L: Ledger>(
         &self,
@@ -75,9 +84,14 @@ impl BoundTerm<'_> {
         b: &Combo,
         steps: &mut Steps<L>,
     ) -> Standing
-        requires a_fits { LeavesFit self.now.tables.now self.now.from.now self.now.first a.now.rows term.now }
-        requires b_fits { LeavesFit self.now.tables.now self.now.from.now self.now.first b.now.rows term.now }
-        ensures standing { result ≡ standing_of (order_of term.now) (shown self.now.tables.now self.now.from.now self.now.first a.now) (shown self.now.tables.now self.now.from.now self.now.first b.now) }
+        requires a_fits { LeavesFit self.now.tables.now self.now.from.now self.now.first a.now.rows
+            term.now }
+        requires b_fits { LeavesFit self.now.tables.now self.now.from.now self.now.first b.now.rows
+            term.now }
+        ensures standing { result
+            ≡ standing_of (order_of term.now)
+            (shown self.now.tables.now self.now.from.now self.now.first a.now)
+            (shown self.now.tables.now self.now.from.now self.now.first b.now) }
         ensures least_steps { steps.old + 1 ≤ steps.new }
         ensures most_steps { steps.new ≤ steps.old + length (leaves_of term.now) }
     {
@@ -102,9 +116,15 @@ impl BoundTerm<'_> {
 
     /// Whether the two are not distinct on every group column.
     fn is_same_group(&self, a: &Combo, b: &Combo) -> bool
-        requires a_there { All (IsInSight self.now.tables.now self.now.from.now self.now.first a.now.rows) self.now.groups.now }
-        requires b_there { All (IsInSight self.now.tables.now self.now.from.now self.now.first b.now.rows) self.now.groups.now }
-        ensures { result ≡ is_same_group self.now.groups.now (shown self.now.tables.now self.now.from.now self.now.first a.now) (shown self.now.tables.now self.now.from.now self.now.first b.now) }
+        requires a_there { All
+            (IsInSight self.now.tables.now self.now.from.now self.now.first a.now.rows)
+            self.now.groups.now }
+        requires b_there { All
+            (IsInSight self.now.tables.now self.now.from.now self.now.first b.now.rows)
+            self.now.groups.now }
+        ensures { result ≡ is_same_group self.now.groups.now
+            (shown self.now.tables.now self.now.from.now self.now.first a.now)
+            (shown self.now.tables.now self.now.from.now self.now.first b.now) }
     {
         for place in self.groups {
             let a = cell_in_sight(*place, self.tables, self.from, self.first, a);
@@ -118,9 +138,13 @@ impl BoundTerm<'_> {
 
     /// Whether the two are the same by the leaf.
     fn is_same_by_leaf(&self, leaf: &Leaf, a: &Combo, b: &Combo) -> bool
-        requires a_fits { LeafFits self.now.tables.now self.now.from.now self.now.first a.now.rows leaf.now }
-        requires b_fits { LeafFits self.now.tables.now self.now.from.now self.now.first b.now.rows leaf.now }
-        ensures { result ≡ (leaf_order leaf.now).same (shown self.now.tables.now self.now.from.now self.now.first a.now) (shown self.now.tables.now self.now.from.now self.now.first b.now) }
+        requires a_fits { LeafFits self.now.tables.now self.now.from.now self.now.first a.now.rows
+            leaf.now }
+        requires b_fits { LeafFits self.now.tables.now self.now.from.now self.now.first b.now.rows
+            leaf.now }
+        ensures { result ≡ (leaf_order leaf.now).same
+            (shown self.now.tables.now self.now.from.now self.now.first a.now)
+            (shown self.now.tables.now self.now.from.now self.now.first b.now) }
     {
         ranking::same(
             &leaf.base,
@@ -133,9 +157,13 @@ impl BoundTerm<'_> {
     /// Whether the two are the same by the term.
     #[tactic(auto, using(crate::proofs::Standings::standings))]
     fn is_same_by(&self, term: &Term, a: &Combo, b: &Combo) -> bool
-        requires a_fits { LeavesFit self.now.tables.now self.now.from.now self.now.first a.now.rows term.now }
-        requires b_fits { LeavesFit self.now.tables.now self.now.from.now self.now.first b.now.rows term.now }
-        ensures { result ≡ (order_of term.now).same (shown self.now.tables.now self.now.from.now self.now.first a.now) (shown self.now.tables.now self.now.from.now self.now.first b.now) }
+        requires a_fits { LeavesFit self.now.tables.now self.now.from.now self.now.first a.now.rows
+            term.now }
+        requires b_fits { LeavesFit self.now.tables.now self.now.from.now self.now.first b.now.rows
+            term.now }
+        ensures { result ≡ (order_of term.now).same
+            (shown self.now.tables.now self.now.from.now self.now.first a.now)
+            (shown self.now.tables.now self.now.from.now self.now.first b.now) }
     {
         match term {
             Term::Leaf(leaf) => self.is_same_by_leaf(leaf, a, b),
@@ -148,21 +176,30 @@ impl BoundTerm<'_> {
 
     /// How the keys of the two compare by the leaf.
     fn leaf_keys(&self, leaf: &Leaf, a: &Combo, b: &Combo) -> Ordering
-        requires a_fits { LeafFits self.now.tables.now self.now.from.now self.now.first a.now.rows leaf.now }
-        requires b_fits { LeafFits self.now.tables.now self.now.from.now self.now.first b.now.rows leaf.now }
-        ensures { result ≡ base.key_order leaf.now.base (shown self.now.tables.now self.now.from.now self.now.first a.now leaf.now.place) (shown self.now.tables.now self.now.from.now self.now.first b.now leaf.now.place) }
+        requires a_fits { LeafFits self.now.tables.now self.now.from.now self.now.first a.now.rows
+            leaf.now }
+        requires b_fits { LeafFits self.now.tables.now self.now.from.now self.now.first b.now.rows
+            leaf.now }
+        ensures { result ≡ base.key_order leaf.now.base
+            (shown self.now.tables.now self.now.from.now self.now.first a.now leaf.now.place)
+            (shown self.now.tables.now self.now.from.now self.now.first b.now leaf.now.place) }
     {
         let a = ranking::key(&leaf.base, self.leaf_cell(leaf, a));
         let b = ranking::key(&leaf.base, self.leaf_cell(leaf, b));
         a.cmp(&b)
     }
 
-    /// How the keys of the two compare by the term: the first two that differ decide, and no later key is computed.
+    /// How the keys of the two compare by the term: the first two that differ decide, and no later
+    /// key is computed.
     #[tactic(auto, using(crate::proofs::Standings::standings))]
     fn term_keys(&self, term: &Term, a: &Combo, b: &Combo) -> Ordering
-        requires a_fits { LeavesFit self.now.tables.now self.now.from.now self.now.first a.now.rows term.now }
-        requires b_fits { LeavesFit self.now.tables.now self.now.from.now self.now.first b.now.rows term.now }
-        ensures { result ≡ key_order term.now (shown self.now.tables.now self.now.from.now self.now.first a.now) (shown self.now.tables.now self.now.from.now self.now.first b.now) }
+        requires a_fits { LeavesFit self.now.tables.now self.now.from.now self.now.first a.now.rows
+            term.now }
+        requires b_fits { LeavesFit self.now.tables.now self.now.from.now self.now.first b.now.rows
+            term.now }
+        ensures { result ≡ key_order term.now
+            (shown self.now.tables.now self.now.from.now self.now.first a.now)
+            (shown self.now.tables.now self.now.from.now self.now.first b.now) }
     {
         match term {
             Term::Leaf(leaf) => self.leaf_keys(leaf, a, b),
@@ -190,17 +227,22 @@ impl Preference for BoundTerm<'_> {
 
     type Item = Combo;
 
-    ghost valid = { λ pref combo. TermFits pref.tables.now pref.from.now pref.first combo.rows pref.term.now pref.groups.now };
+    ghost valid = { λ pref combo.
+        TermFits pref.tables.now pref.from.now pref.first combo.rows pref.term.now pref.groups.now };
 
-    ghost better = { λ pref. on (shown pref.tables.now pref.from.now pref.first) ((grouped_order pref.groups.now pref.term.now).better) };
+    ghost better = { λ pref. on (shown pref.tables.now pref.from.now pref.first)
+        ((grouped_order pref.groups.now pref.term.now).better) };
 
-    ghost same = { λ pref. on (shown pref.tables.now pref.from.now pref.first) ((grouped_order pref.groups.now pref.term.now).same) };
+    ghost same = { λ pref. on (shown pref.tables.now pref.from.now pref.first)
+        ((grouped_order pref.groups.now pref.term.now).same) };
 
-    ghost key_cmp = { λ pref. on (shown pref.tables.now pref.from.now pref.first) (key_order pref.term.now) };
+    ghost key_cmp = { λ pref. on (shown pref.tables.now pref.from.now pref.first)
+        (key_order pref.term.now) };
 
     ghost width = { λ pref. length (leaves_of pref.term.now) };
 
-    ghost laws = { λ pref. bound_lawful pref.tables.now pref.from.now pref.first pref.term.now pref.groups.now };
+    ghost laws = { λ pref.
+        bound_lawful pref.tables.now pref.from.now pref.first pref.term.now pref.groups.now };
 
     ghost width_positive = { λ pref. some_leaf pref.term.now };
 

@@ -1,4 +1,5 @@
-//! Terms of base preferences, and which of two combinations of rows is better by them (Kießling, VLDB 2002).
+//! Terms of base preferences, and which of two combinations of rows is better by them (Kießling,
+//! VLDB 2002).
 #![tactic(auto)]
 
 mod bound;

@@ -8,12 +8,14 @@ use crate::term::Term;
 use prefsql_values::{Boxed, Memory};
 use std::alloc::Global;
 
-/// The term without the leaves of other tables than the FROM table at this position. Where a constructor loses one part,
-/// the other part takes its place. None where no leaf is left.
+/// The term without the leaves of other tables than the FROM table at this position. Where a
+/// constructor loses one part, the other part takes its place. None where no leaf is left.
 pub fn restrict(alloc: Global, term: &Term, table: u32) -> Result<Option<Term>, Memory>
     ensures exact { IfOk result (λ left. left ≡ restricted table term.now) }
-    ensures leaves { IfOk result (λ left. leaves_left left ≡ filter (is_on table) (leaves_of term.now)) }
-    ensures none { IfOk result (λ left. IsNone left ↔ All (λ leaf. leaf.place.table ≢ table) (leaves_of term.now)) }
+    ensures leaves { IfOk result
+        (λ left. leaves_left left ≡ filter (is_on table) (leaves_of term.now)) }
+    ensures none { IfOk result
+        (λ left. IsNone left ↔ All (λ leaf. leaf.place.table ≢ table) (leaves_of term.now)) }
 {
     let left = restrict_part(alloc, term, table)?;
     Ok(left)
@@ -85,7 +87,8 @@ fn join_prior(
     }
 }
 
-/// Whether a leaf with this number is reached through Pareto nodes and first parts of Prior nodes alone.
+/// Whether a leaf with this number is reached through Pareto nodes and first parts of Prior nodes
+/// alone.
 #[tactic(auto, using(crate::proofs::PartReads::closed_found))]
 pub fn is_closed_leaf(term: &Term, leaf: u32) -> bool
     ensures test { result ≡ list_any (nat_eq leaf) (closed_numbers term.now) }

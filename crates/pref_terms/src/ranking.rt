@@ -39,7 +39,8 @@ fn is_highest(base: &BasePref) -> bool
     }
 }
 
-/// The key of a value: its level, its distance, its number for LOWEST or its negated number for HIGHEST.
+/// The key of a value: its level, its distance, its number for LOWEST or its negated number for
+/// HIGHEST.
 #[tactic(auto, using(crate::proofs::KeyReads::keys))]
 pub(crate) fn key(base: &BasePref, cell: Cell<'_>) -> i128
     requires { IsJudged base.now (value_of cell) }
@@ -57,13 +58,15 @@ pub(crate) fn key(base: &BasePref, cell: Cell<'_>) -> i128
 /// The key of a value by LOWEST and by HIGHEST.
 fn number_key(base: &BasePref, cell: Cell<'_>) -> i128
     requires { IsJudged base.now (value_of cell) }
-    ensures { result ≡ if is_highest base.now then neg_ℤ (number_of (value_of cell.entry)) else number_of (value_of cell.entry) }
+    ensures { result ≡ if is_highest base.now then neg_ℤ (number_of (value_of cell.entry))
+        else number_of (value_of cell.entry) }
 {
     let number = number(cell);
     if is_highest(base) { -number } else { number }
 }
 
-/// The number of the first of the values that is the value of the cell, from 0, or how many values there are.
+/// The number of the first of the values that is the value of the cell, from 0, or how many values
+/// there are.
 fn position(values: &[Value], cell: Cell<'_>) -> usize
     ensures { result ≡ place_of values.now (value_of cell.entry) }
 {
@@ -77,8 +80,8 @@ fn position(values: &[Value], cell: Cell<'_>) -> usize
     at
 }
 
-/// Whether the value of `a` is better than that of `b` by the graph of EXPLICIT with these values: a path leads from it to
-/// that of `b`, or it is one of them and that of `b` is none.
+/// Whether the value of `a` is better than that of `b` by the graph of EXPLICIT with these values:
+/// a path leads from it to that of `b`, or it is one of them and that of `b` is none.
 fn graph_better(base: &BasePref, values: &[Value], a: Cell<'_>, b: Cell<'_>) -> bool
     requires explicit { IsTrue (is_explicit base.now) }
     requires listed { values.now ≡ graph_values (edges_of base.now) }
@@ -97,12 +100,14 @@ fn graph_better(base: &BasePref, values: &[Value], a: Cell<'_>, b: Cell<'_>) -> 
     }
 }
 
-/// How the value of `a` stands to that of `b`: it is better by the graph of EXPLICIT, else by the smaller key. Two values
-/// are the same with `trivial` where they are equal, else where their keys are.
+/// How the value of `a` stands to that of `b`: it is better by the graph of EXPLICIT, else by the
+/// smaller key. Two values are the same with `trivial` where they are equal, else where their keys
+/// are.
 pub(crate) fn value_standing(base: &BasePref, trivial: bool, a: Cell<'_>, b: Cell<'_>) -> Standing
     requires a_judged { IsJudged base.now (value_of a) }
     requires b_judged { IsJudged base.now (value_of b) }
-    ensures { result ≡ standing_by (better_of base.now (value_of a.entry) (value_of b.entry)) (same_of base.now trivial (value_of a.entry) (value_of b.entry)) }
+    ensures { result ≡ standing_by (better_of base.now (value_of a.entry) (value_of b.entry))
+        (same_of base.now trivial (value_of a.entry) (value_of b.entry)) }
 {
     if base.is_weak() {
         return keyed_standing(base, trivial, a, b);
@@ -121,7 +126,8 @@ fn keyed_standing(base: &BasePref, trivial: bool, a: Cell<'_>, b: Cell<'_>) -> S
     requires a_judged { IsJudged base.now (value_of a) }
     requires b_judged { IsJudged base.now (value_of b) }
     requires weak { is_explicit base.now ≡ false }
-    ensures { result ≡ standing_by (better_of base.now (value_of a.entry) (value_of b.entry)) (same_of base.now trivial (value_of a.entry) (value_of b.entry)) }
+    ensures { result ≡ standing_by (better_of base.now (value_of a.entry) (value_of b.entry))
+        (same_of base.now trivial (value_of a.entry) (value_of b.entry)) }
 {
     let a_key = key(base, a);
     let b_key = key(base, b);
@@ -153,7 +159,8 @@ fn explicit_better(base: &BasePref, a: Cell<'_>, b: Cell<'_>) -> bool
     }
 }
 
-/// Whether the two values are the same: with `trivial` where they are equal, else where their keys are.
+/// Whether the two values are the same: with `trivial` where they are equal, else where their keys
+/// are.
 pub(crate) fn same(base: &BasePref, trivial: bool, a: Cell<'_>, b: Cell<'_>) -> bool
     requires a_judged { IsJudged base.now (value_of a) }
     requires b_judged { IsJudged base.now (value_of b) }

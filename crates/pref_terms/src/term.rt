@@ -20,7 +20,8 @@ pub struct Leaf {
     pub trivial: bool,
 }
 
-/// A preference of combinations of rows: base preferences joined by Pareto and prioritised preference (Kießling, VLDB
+/// A preference of combinations of rows: base preferences joined by Pareto and prioritised
+/// preference (Kießling, VLDB
 /// 2002).
 #[derive(Debug, Drop)]
 pub enum Term {
@@ -71,8 +72,8 @@ impl Term {
         }
     }
 
-    /// What is computed for this term decides which of two combinations is better and which are the same. A law, with no
-    /// effect.
+    /// What is computed for this term decides which of two combinations is better and which are the
+    /// same. A law, with no effect.
     #[tactic(auto, using(crate::proofs::BetterLaws::term_decided))]
     pub fn is_decided(&self)
         ensures { IsDecidedBy (relation_of self.now) (order_of self.now) }

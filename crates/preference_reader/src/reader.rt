@@ -109,7 +109,9 @@ impl PreferenceReader {
         first: SetTree,
         column: NameTree,
     ) -> Result<BaseForm, Stop>
-        ensures { Reads (with_value (λ h. h column first) (outcome self.depth sides.second_set tokens.old)) result tokens.new }
+        ensures { Reads (with_value
+            (λ h. h column first) (outcome self.depth sides.second_set tokens.old)) result
+            tokens.new }
     {
         if tokens.at_symbol(Symbol::Equal) || tokens.at_word(Keyword::In) {
             let ((first, column), second) = both((first, column), self.good_set(tokens))?;
@@ -122,7 +124,9 @@ impl PreferenceReader {
 
     #[tactic(auto, unfolding(query_grammar::specs::ReadPreferences::otherwise, token_forms::specs::Columns::column))]
     fn otherwise(self, tokens: &mut Cursor<'_>, first: SetTree) -> Result<BaseForm, Stop>
-        ensures { Reads (with_value (λ h. h first) (outcome self.depth preferences.otherwise tokens.old)) result tokens.new }
+        ensures { Reads (with_value
+            (λ h. h first) (outcome self.depth preferences.otherwise tokens.old)) result
+            tokens.new }
     {
         let (first, _) = both(first, tokens.word(Keyword::Else))?;
         let (first, column) = both(first, tokens.column())?;
@@ -173,13 +177,15 @@ impl PreferenceReader {
         Ok(List::new(self.alloc))
     }
 
-    /// The sets up to OTHERS, and those after it. A comma needs a second look: OTHERS or a set may follow.
+    /// The sets up to OTHERS, and those after it. A comma needs a second look: OTHERS or a set may
+    /// follow.
     #[tactic(auto, unfolding(query_grammar::specs::ReadPreferences::sets_and_others), using(token_forms::proofs::Values::value_twice))]
     fn sets_and_others(
         self,
         tokens: &mut Cursor<'_>,
     ) -> Result<(List<SetTree>, Option<List<SetTree>>), Stop>
-        ensures { Reads (outcome self.depth preferences.sets_and_others tokens.old) result tokens.new }
+        ensures { Reads (outcome self.depth preferences.sets_and_others tokens.old) result
+            tokens.new }
     {
         let mut found = pushed(List::new(self.alloc), self.set(tokens))?;
         'more: while tokens.eat_symbol(Symbol::Comma) {
@@ -216,7 +222,8 @@ impl PreferenceReader {
     }
 
     fn layers_in_parens(self, tokens: &mut Cursor<'_>) -> Result<BaseForm, Stop>
-        ensures { Reads (outcome self.depth (forms.in_parens preferences.layers_form) tokens.old) result tokens.new }
+        ensures { Reads (outcome self.depth (forms.in_parens preferences.layers_form) tokens.old)
+            result tokens.new }
     {
         tokens.symbol(Symbol::LeftParen)?;
         let layers = self.layers(tokens)?;

@@ -8,8 +8,8 @@ const MULTIPLIER: u64 = 6_364_136_223_846_793_005;
 
 const INCREMENT: u64 = 1_442_695_040_888_963_407;
 
-/// Numbers drawn one after the other, the same at each run: a linear congruential generator with the multiplier and the
-/// increment of Knuth's MMIX.
+/// Numbers drawn one after the other, the same at each run: a linear congruential generator with
+/// the multiplier and the increment of Knuth's MMIX.
 #[derive(Drop)]
 pub(crate) struct Draws {
     pub(crate) state: u64,

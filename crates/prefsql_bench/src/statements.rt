@@ -25,11 +25,13 @@ const C: u32 = 3;
 
 const G: u32 = 4;
 
-/// The three queries of the bench, in their order, which ask the table BENCH. The only error is want of memory.
+/// The three queries of the bench, in their order, which ask the table BENCH. The only error is
+/// want of memory.
 pub fn bench_blocks(alloc: Global) -> Result<List<Block>, Memory>
     ensures exact { IfOk result (λ blocks. blocks ≡ bench_blocks) }
     ensures valid { IfOk result (λ blocks. All IsValidBlock blocks) }
-    ensures fits { IfOk result (λ blocks. (row_count : ℕ) → All (FitsTables (bench_set row_count)) blocks) }
+    ensures fits { IfOk result
+        (λ blocks. (row_count : ℕ) → All (FitsTables (bench_set row_count)) blocks) }
 {
     let mut blocks = List::new(alloc);
     blocks.push(first_block(alloc)?)?;

@@ -23,8 +23,8 @@ pub fn bench_tables(alloc: Global, row_count: u32) -> Result<TableSet, Memory>
     }
 }
 
-/// The table of the bench with this many rows: whole numbers in the columns ID, A, B, C and G. The only error is want of
-/// memory.
+/// The table of the bench with this many rows: whole numbers in the columns ID, A, B, C and G. The
+/// only error is want of memory.
 pub fn bench_table(alloc: Global, row_count: u32) -> Result<Table, Memory>
     requires some { 1 ≤ row_count }
     requires few { row_count ≤ 100000 }

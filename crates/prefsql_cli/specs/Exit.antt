@@ -1,7 +1,9 @@
 -- The numbers with which the program ends. They are this project's own.
 use Rattle.std.specs.Prelude.{ℕ}
 use Rattle.prefsql_session.specs.declared.session.Status.{Status}
-use Rattle.prefsql_session.specs.declared.session.Status.TheVariants.{Done, Refused, Usage, ReadFault, WriteFault, Memory, ShelfFault}
+use Rattle.prefsql_session.specs.declared.session.Status.TheVariants.{Done, Refused, Usage}
+use Rattle.prefsql_session.specs.declared.session.Status.TheVariants.{ReadFault, WriteFault, Memory}
+use Rattle.prefsql_session.specs.declared.session.Status.TheVariants.{ShelfFault}
 
 abbrev pub exit_number : Status → ℕ
 exit_number Done = 0

@@ -56,8 +56,10 @@ fn run_over<L: Ledger>(rt: HostRuntime, arguments: &[List<u8>], blank: Blank) ->
     requires parts { blank.parts ≡ L.parts }
     requires one { blank.parts ≡ 1 }
     ensures texts { are_texts (words_in arguments.now) ≡ true
-        → EndsAt (Comes (words_in arguments.now) None None) (opening (words_in arguments.now) None) (accepted (words_in arguments.now)) result }
-    ensures no_text { are_texts (words_in arguments.now) ≡ false → EndsAt (Comes [] None None) (opening [] None) (accepted []) result }
+        → EndsAt (Comes (words_in arguments.now) None None) (opening (words_in arguments.now) None)
+        (accepted (words_in arguments.now)) result }
+    ensures no_text { are_texts (words_in arguments.now) ≡ false
+        → EndsAt (Comes [] None None) (opening [] None) (accepted []) result }
 {
     let alloc = rt.alloc();
     let words = match words_of(alloc, arguments) {
@@ -74,7 +76,8 @@ fn run_real<L: Ledger>(rt: HostRuntime, words: &[Text], blank: Blank) -> Status
     requires name { blank.name ≡ L.name }
     requires parts { blank.parts ≡ L.parts }
     requires one { blank.parts ≡ 1 }
-    ensures { EndsAt (Comes words.now None None) (opening words.now None) (accepted words.now) result }
+    ensures { EndsAt (Comes words.now None None) (opening words.now None)
+        (accepted words.now) result }
 {
     let alloc = rt.alloc();
     let mut script = StdSource::new(rt.stdin());

@@ -28,7 +28,8 @@ impl From<Memory> for NoWords {
     }
 }
 
-/// The words: the arguments behind the program's own name, in their order. The name may hold any bytes.
+/// The words: the arguments behind the program's own name, in their order. The name may hold any
+/// bytes.
 pub(crate) fn words_of(alloc: Global, arguments: &[List<u8>]) -> Result<List<Text>, NoWords>
     ensures words { IfOk result (λ words. words ≡ words_in arguments.now) }
     ensures texts { OnOk result (are_texts (words_in arguments.now) ≡ true) }
@@ -93,7 +94,8 @@ pub(crate) fn arguments<R: Env>(env: &R, alloc: Global) -> Result<List<List<u8>>
     Ok(all)
 }
 
-/// The bytes of the argument at a place, which is None behind the last one. The room for it is doubled until it is enough.
+/// The bytes of the argument at a place, which is None behind the last one. The room for it is
+/// doubled until it is enough.
 fn argument<R: Env>(env: &R, alloc: Global, place: usize) -> Result<Option<Vec<u8>>, Memory> {
     let mut room: usize = 256;
     for _ in 0..usize::BITS {

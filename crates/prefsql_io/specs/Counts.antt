@@ -1,6 +1,6 @@
--- Counts of faults, which never fall and stand still at `u64::MAX`. A count is of the calls of one object that failed: what
--- the object does inside a call, as trying an interrupted read again, is part of that call. All definitions here are this
--- project's own.
+-- Counts of faults, which never fall and stand still at `u64::MAX`. A count is of the calls of one
+-- object that failed: what the object does inside a call, as trying an interrupted read again, is
+-- part of that call. All definitions here are this project's own.
 use Rattle.std.specs.Prelude.{ℕ, ◌+◌, ◌-◌, ◌^◌, ◌≤◌, ◌<◌, min}
 
 -- the count after one more event

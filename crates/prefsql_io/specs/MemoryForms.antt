@@ -1,5 +1,8 @@
--- What the forms in memory keep, and exactly what their calls do. All definitions here are this project's own.
-use Rattle.std.specs.Prelude.{◌≡◌, ◌↔◌, ◌⊎◌, ℕ, ◌-◌, ◌≤◌, min, List, [], ◌∷◌, length, Bool, true, Result, Err, Vec, is_err, IsErr, IsErrOf, IfOk, ◌≢◌, false, IsNone, IsTrue, if◌then◌else◌, ◌==◌}
+-- What the forms in memory keep, and exactly what their calls do. All definitions here are this
+-- project's own.
+use Rattle.std.specs.Prelude.{◌≡◌, ◌↔◌, ◌⊎◌, ℕ, ◌-◌, ◌≤◌, min, List, [], ◌∷◌, length, Bool, true}
+use Rattle.std.specs.Prelude.{Result, Err, Vec, is_err, IsErr, IsErrOf, IfOk, ◌≢◌, false, IsNone}
+use Rattle.std.specs.Prelude.{IsTrue, if◌then◌else◌, ◌==◌}
 use Rattle.std.specs.List.{list_any}
 use Rattle.std.specs.declared.alloc.Global.{Global}
 use Rattle.prefsql_io.specs.Counts.{counted}
@@ -35,7 +38,8 @@ pub record SourceState : Type 0 where
   pub calls : CallState
 
 -- a read of a source in memory, into a buffer of this length
-pub record MemoryReads {E : Type 0} (old new : SourceState) (room : ℕ) (result : Result ℕ E) : Type 0 where
+pub record MemoryReads {E : Type 0} (old new : SourceState) (room : ℕ)
+    (result : Result ℕ E) : Type 0 where
   pub failed : IsErr result ↔ IsTrue (fails_next old.calls)
   pub count : IfOk result (λ n. n ≡ min (min old.piece (length old.left)) room)
   pub calls : new.calls ≡ after_call (is_err result) old.calls
@@ -49,9 +53,11 @@ pub record SinkState : Type 0 where
   pub calls : CallState
 
 -- a write of these bytes to a sink in memory
-pub record MemoryWrites {E : Type 0} (old new : SinkState) (bytes : List ℕ) (result : Result ℕ E) : Type 0 where
+pub record MemoryWrites {E : Type 0} (old new : SinkState) (bytes : List ℕ)
+    (result : Result ℕ E) : Type 0 where
   pub failed : IsErr result ↔ (IsTrue (fails_next old.calls) ⊎ (old.room ≤ length old.written))
-  pub count : IfOk result (λ n. n ≡ min (min old.piece (length bytes)) (old.room - length old.written))
+  pub count : IfOk result (λ n. n
+      ≡ min (min old.piece (length bytes)) (old.room - length old.written))
   pub calls : new.calls ≡ after_call (is_err result) old.calls
   pub room : new.room ≡ old.room
   pub piece : new.piece ≡ old.piece
@@ -76,7 +82,10 @@ is_memory (Err Memory) = true
 is_memory _ = false
 
 -- a load from a shelf in memory; one that answers want of memory is not counted
-pub record MemoryLoads (old new : ShelfState) (path : List ℕ) (result : Result (Vec ℕ Global) LoadError) : Type 0 where
-  pub failed : IsErrOf result Failed ↔ ((result ≢ Err Memory) × (IsTrue (fails_next old.calls) ⊎ IsNone (bytes_at old.files path)))
-  pub calls : new.calls ≡ (if is_memory result then old.calls else after_call (is_failed result) old.calls)
+pub record MemoryLoads (old new : ShelfState) (path : List ℕ)
+    (result : Result (Vec ℕ Global) LoadError) : Type 0 where
+  pub failed : IsErrOf result Failed ↔ ((result ≢ Err Memory)
+      × (IsTrue (fails_next old.calls) ⊎ IsNone (bytes_at old.files path)))
+  pub calls : new.calls ≡ (if is_memory result then old.calls
+      else after_call (is_failed result) old.calls)
   pub files : new.files ≡ old.files

@@ -1,4 +1,5 @@
--- What a write, and a run of reads or writes, do to known bytes. All definitions here are this project's own.
+-- What a write, and a run of reads or writes, do to known bytes. All definitions here are this
+-- project's own.
 use Rattle.std.specs.Prelude.{◌≡◌, ℕ, ◌+◌, ◌≤◌, ◌<◌, List, length, take, Option, Result, IfOk}
 use Rattle.std.specs.Io.KnownBytes.{Appends, Consumes}
 

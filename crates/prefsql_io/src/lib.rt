@@ -1,4 +1,5 @@
-//! The outside of the program: sources, sinks and shelves of files, each with a count of its faults.
+//! The outside of the program: sources, sinks and shelves of files, each with a count of its
+//! faults.
 #![tactic(auto)]
 
 mod adapters;

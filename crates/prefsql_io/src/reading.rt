@@ -24,9 +24,10 @@ pub enum ReadError {
 /// The greatest number of bytes that are asked for at once.
 const CHUNK: usize = 4096;
 
-/// Gives all that is left, at most `limit` bytes. `TooLong` comes after `limit + 1` bytes were taken. After each refusal
-/// what is left is an end of what was left before. After the first read that failed no other is tried, so that the
-/// source's count of faults is as it was unless the answer is `Failed`.
+/// Gives all that is left, at most `limit` bytes. `TooLong` comes after `limit + 1` bytes were
+/// taken. After each refusal what is left is an end of what was left before. After the first read
+/// that failed no other is tried, so that the source's count of faults is as it was unless the
+/// answer is `Failed`.
 pub fn read_to_end<S: Source>(
     alloc: Global,
     source: &mut S,
@@ -34,12 +35,16 @@ pub fn read_to_end<S: Source>(
 ) -> Result<Vec<u8>, ReadError>
     requires { limit < 2 ^ 64 - 1 }
     ensures bound { IfOk result (λ bytes. vec_len bytes ≤ limit) }
-    ensures all { IfOk result (λ bytes. Consumes (S.left source.old) (S.left source.new) bytes.items) }
+    ensures all { IfOk result
+        (λ bytes. Consumes (S.left source.old) (S.left source.new) bytes.items) }
     ensures end { OnOk result (IsAtEnd (S.left source.new)) }
     ensures refused { TakesFront (S.left source.old) (S.left source.new) }
-    ensures too_long { IsErrOf result ReadError.TooLong → TakesPast (S.left source.old) (S.left source.new) limit }
-    ensures cause { HasCause (S.faults source.old) (S.faults source.new) (IsErrOf result ReadError.Failed) }
-    ensures kept { (IsErrOf result ReadError.Failed → ⊥) → S.faults source.new ≡ S.faults source.old }
+    ensures too_long { IsErrOf result ReadError.TooLong
+        → TakesPast (S.left source.old) (S.left source.new) limit }
+    ensures cause { HasCause (S.faults source.old) (S.faults source.new)
+        (IsErrOf result ReadError.Failed) }
+    ensures kept { (IsErrOf result ReadError.Failed → ⊥)
+        → S.faults source.new ≡ S.faults source.old }
 {
     let mut bytes = Vec::new(alloc);
     let mut chunk = [0; CHUNK];

@@ -1,4 +1,5 @@
--- What a parser may take for granted of the tokens of a script. These limits are this project's own.
+-- What a parser may take for granted of the tokens of a script. These limits are this project's
+-- own.
 use Rattle.std.specs.Prelude.{◌≤◌, ◌<◌, ℕ, List, [], ◌∷◌, All, ⊤}
 use Rattle.prefsql_values.specs.Limits.{IsName, IsUnsignedShort}
 use Rattle.prefsql_lexer.specs.declared.token.Token.{Token}
@@ -19,12 +20,14 @@ IsNumberSmall _ = ⊤
 -- after each token the depth is within the limit, where it is this before the first
 abbrev pub NestWithin : ℕ → ℕ → List Token → Type 0
 NestWithin limit depth [] = ⊤
-NestWithin limit depth (token ∷ tokens) = (depth_after depth token.kind ≤ limit) × NestWithin limit (depth_after depth token.kind) tokens
+NestWithin limit depth (token ∷ tokens) = (depth_after depth token.kind ≤ limit)
+    × NestWithin limit (depth_after depth token.kind) tokens
 
 -- from the place `at` up to `end` the spans ascend, none is empty, and no two overlap
 abbrev pub SpansAscend : ℕ → ℕ → List Token → Type 0
 SpansAscend at end [] = at ≤ end
-SpansAscend at end (token ∷ tokens) = (at ≤ token.start) × (token.start < token.end) × SpansAscend token.end end tokens
+SpansAscend at end (token ∷ tokens) = (at ≤ token.start) × (token.start < token.end)
+    × SpansAscend token.end end tokens
 
 -- tokens as a script of `end` bytes may have them
 pub record AreTokensOf (limit end : ℕ) (tokens : List Token) : Type 0 where

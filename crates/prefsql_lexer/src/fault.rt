@@ -12,9 +12,9 @@ pub struct Spot {
 /// Why a script has no tokens: its first lexical fault, or want of memory.
 #[derive(Clone, Copy, Debug, PartialEq, Eq)]
 pub enum LexFault {
-    /// E101 for a character that begins no token, E102 for a quote that no quoted form begins with, E103 for a number of more
-    /// than 18 digits, E104 for a token that nests above the limit, E105 for an identifier of no character or more than 64,
-    /// E107 for bytes that are not UTF-8.
+    /// E101 for a character that begins no token, E102 for a quote that no quoted form begins with,
+    /// E103 for a number of more than 18 digits, E104 for a token that nests above the limit, E105
+    /// for an identifier of no character or more than 64, E107 for bytes that are not UTF-8.
     Bad(Spot),
     Memory,
 }

@@ -70,7 +70,8 @@ pub enum Symbol {
 #[derive(Debug, Drop)]
 pub enum TokenKind {
     Word(Keyword),
-    /// An identifier: a regular one in capitals, a delimited one as it stands between its quotes, each doubled quote once.
+    /// An identifier: a regular one in capitals, a delimited one as it stands between its quotes,
+    /// each doubled quote once.
     Name(Text),
     /// The number that the digits write.
     Number(i64),

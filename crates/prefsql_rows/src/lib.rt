@@ -1,5 +1,5 @@
-//! Tests over several crates: which base preferences are made, what is left of a term of them, the best of a list by one of
-//! them, and the bench.
+//! Tests over several crates: which base preferences are made, what is left of a term of them, the
+//! best of a list by one of them, and the bench.
 //! Nothing stands on this crate.
 #![tactic(auto)]
 

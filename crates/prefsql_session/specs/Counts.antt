@@ -1,6 +1,7 @@
 -- How many tests of the preference answering queries takes, and the lines that tell it. This is
 -- this project's own.
-use Rattle.std.specs.Prelude.{ℕ, ◌≡◌, ◌+◌, ◌*◌, ◌-◌, ◌^◌, ◌<◌, ◌≤◌, ⊤, min, Bool, true, false, List, [], ◌∷◌, ◌++◌, All, codes, decimal, take}
+use Rattle.std.specs.Prelude.{ℕ, ◌≡◌, ◌+◌, ◌*◌, ◌-◌, ◌^◌, ◌<◌, ◌≤◌, ⊤, min, Bool, true, false, List}
+use Rattle.std.specs.Prelude.{[], ◌∷◌, ◌++◌, All, codes, decimal, take}
 use Rattle.std.specs.List.{flat_map, sum}
 use Rattle.prefsql_tables.specs.Table.{Tables}
 use Rattle.query_meaning.specs.declared.block.Block.{Block}

@@ -1,5 +1,6 @@
 -- What the words and the files come to, in the order of work. All of it is this project's own.
-use Rattle.std.specs.Prelude.{ℕ, List, [], ◌∷◌, ◌++◌, length, Bool, false, ◌||◌, if◌then◌else◌, Option, None, Some, Result, Ok, Err, nat_lt}
+use Rattle.std.specs.Prelude.{ℕ, List, [], ◌∷◌, ◌++◌, length, Bool, false, ◌||◌, if◌then◌else◌}
+use Rattle.std.specs.Prelude.{Option, None, Some, Result, Ok, Err, nat_lt}
 use Rattle.std.specs.List.{list_any}
 use Rattle.std.specs.Str.{bytes_eq}
 use Rattle.prefsql_io.specs.Files.{Files, bytes_at}
@@ -9,7 +10,8 @@ use Rattle.prefsql_tables.specs.TableData.{TableData}
 use Rattle.table_csv.specs.FileTable.{file_table}
 use Rattle.table_csv.specs.declared.fault.TableSpot.{TableSpot}
 use Rattle.prefsql_session.specs.CommandLine.{accepted}
-use Rattle.prefsql_session.specs.Stage.{Stage, untold, unaccepted, missing, faulty, ready, and_then, barred_if, ready_or}
+use Rattle.prefsql_session.specs.Stage.{Stage, untold, unaccepted, missing, faulty, ready, and_then}
+use Rattle.prefsql_session.specs.Stage.{barred_if, ready_or}
 use Rattle.prefsql_session.specs.declared.command.Command.{Command}
 use Rattle.prefsql_session.specs.declared.command.Command.TheVariants.{Bench, OnScript}
 use Rattle.prefsql_session.specs.declared.command.TableWord.{TableWord}

@@ -1,5 +1,6 @@
 -- What the parts of a run answer. All of it is this project's own.
-use Rattle.std.specs.Prelude.{◌≡◌, ◌⊎◌, ◌<◌, ◌≤◌, ◌+◌, ◌*◌, ℕ, Bool, List, length, take, ⊤, Option, None, Some, IfSome, Result, Ok, Err, Vec}
+use Rattle.std.specs.Prelude.{◌≡◌, ◌⊎◌, ◌<◌, ◌≤◌, ◌+◌, ◌*◌, ℕ, Bool, List, length, take, ⊤, Option}
+use Rattle.std.specs.Prelude.{None, Some, IfSome, Result, Ok, Err, Vec}
 use Rattle.std.specs.Io.KnownBytes.{Appends, Keeps}
 use Rattle.std.specs.List.{flat_map}
 use Rattle.prefsql_io.specs.Counts.{Rose}
@@ -9,10 +10,12 @@ use Rattle.prefsql_tables.specs.Table.{Tables}
 use Rattle.query_meaning.specs.declared.block.Block.{Block}
 use Rattle.query_meaning.specs.Answers.{answer_of}
 use Rattle.table_csv.specs.AnswerText.{text_of_answer}
-use Rattle.prefsql_session.specs.Counts.{AreTestCounts, IsTestCount, Takes, last_count, told_line, told_lines}
+use Rattle.prefsql_session.specs.Counts.{AreTestCounts, IsTestCount, Takes, last_count, told_line}
+use Rattle.prefsql_session.specs.Counts.{told_lines}
 use Rattle.prefsql_session.specs.Course.{GoesOn}
 use Rattle.prefsql_session.specs.Opening.{Job, over}
-use Rattle.prefsql_session.specs.Run.{AsksForTables, AtEnd, FallsShort, Finishes, GetsAll, GetsFront, IsDueSoFar, MayAskScript}
+use Rattle.prefsql_session.specs.Run.{AsksForTables, AtEnd, FallsShort, Finishes, GetsAll}
+use Rattle.prefsql_session.specs.Run.{GetsFront, IsDueSoFar, MayAskScript}
 use Rattle.prefsql_session.specs.ScriptEnd.{AsksFor, HasQueryFault}
 use Rattle.prefsql_session.specs.Stage.{Stage, ready, unaccepted, MayGive, MayHaveFault}
 use Rattle.prefsql_session.specs.Texts.{text_of}

@@ -9,13 +9,16 @@ use Rattle.prefsql_io.specs.Streams.{AppendsLess}
 use Rattle.prefsql_session.specs.Counts.{AreFirstLinesOf, AreLinesOf, Takes, told_lines}
 use Rattle.prefsql_session.specs.Faults.{fault_line, usage_line}
 use Rattle.prefsql_session.specs.Opening.{Job, over}
-use Rattle.prefsql_session.specs.Stage.{Stage, untold, barred, unaccepted, missing, faulty, ready, MayHaveFault}
+use Rattle.prefsql_session.specs.Stage.{Stage, untold, barred, unaccepted, missing, faulty, ready}
+use Rattle.prefsql_session.specs.Stage.{MayHaveFault}
 use Rattle.prefsql_session.specs.Texts.{text_of}
 use Rattle.prefsql_session.specs.declared.command.Command.{Command}
 use Rattle.prefsql_session.specs.declared.command.Command.TheVariants.{OnScript}
 use Rattle.prefsql_session.specs.declared.fault.Fault.{Fault}
 use Rattle.prefsql_session.specs.declared.session.Status.{Status}
-use Rattle.prefsql_session.specs.declared.session.Status.TheVariants.{Done, Refused, Usage, ReadFault, WriteFault, Memory, ShelfFault}
+use Rattle.prefsql_session.specs.declared.session.Status.TheVariants.{Done, Refused, Usage}
+use Rattle.prefsql_session.specs.declared.session.Status.TheVariants.{ReadFault, WriteFault, Memory}
+use Rattle.prefsql_session.specs.declared.session.Status.TheVariants.{ShelfFault}
 use Rattle.prefsql_session.specs.declared.command.Task.TheVariants.{Ask}
 use Rattle.prefsql_session.specs.declared.command.Wish.TheVariants.{Answer, Show}
 use Rattle.prefsql_session.specs.declared.work.Work.{Work}

@@ -9,7 +9,8 @@ use Rattle.sql_read_back.specs.Texts.{max_bytes}
 use Rattle.sql_reader.specs.Reads.{ReadsAs}
 use Rattle.sql_text.specs.Text.{text_of}
 use Rattle.sql_tree.specs.declared.tree.SqlQuery.{SqlQuery}
-use Rattle.written_script.specs.WrittenScript.{IsOther, answers_of_blocks, answers_of_queries, script_of, written}
+use Rattle.written_script.specs.WrittenScript.{IsOther, answers_of_blocks, answers_of_queries}
+use Rattle.written_script.specs.WrittenScript.{script_of, written}
 use Rattle.prefsql_session.specs.Opening.{opening, over}
 use Rattle.prefsql_session.specs.Stage.{Stage, ready}
 use Rattle.prefsql_session.specs.Texts as texts

@@ -29,7 +29,8 @@ pub(crate) fn answered<L: Ledger>(
     ensures answer { IfOk result (λ found. found.answer ≡ answer_of tables.now block.now) }
     ensures tests { IfOk result (λ found. IsTestCount tables.now block.now found.tests) }
     ensures least_steps { IfOk result (λ found. steps.old + found.tests ≤ steps.new) }
-    ensures most_steps { IfOk result (λ found. found.tests < last_count → steps.new ≤ steps.old + 8 * found.tests) }
+    ensures most_steps { IfOk result
+        (λ found. found.tests < last_count → steps.new ≤ steps.old + 8 * found.tests) }
 {
     let plan = optimise(alloc, block)?;
     run_plan(alloc, &plan, block, tables, steps)
@@ -57,8 +58,10 @@ fn write_answer<O: Sink, E: Sink, L: Ledger>(
     steps: &mut Steps<L>,
 ) -> Result<u64, Halt>
     requires { IsAnswerable tables.now block.now }
-    ensures wrote { WritesAnswer tells tables.now block.now (O.faults out.old) (O.faults out.new) (O.written out.old) (O.written out.new)
-        (E.faults err.old) (E.faults err.new) (E.written err.old) (E.written err.new) steps.old steps.new result }
+    ensures wrote { WritesAnswer tells tables.now block.now (O.faults out.old) (O.faults out.new)
+        (O.written out.old) (O.written out.new)
+        (E.faults err.old) (E.faults err.new) (E.written err.old)
+        (E.written err.new) steps.old steps.new result }
     ensures kept { (IsErrOf result Halt.WriteFault → ⊥)
         → (O.faults out.new ≡ O.faults out.old) × (E.faults err.new ≡ E.faults err.old) }
 {
@@ -72,8 +75,8 @@ fn write_answer<O: Sink, E: Sink, L: Ledger>(
     Ok(found.tests)
 }
 
-/// Answers the statements in order. Each answer is written before the next is computed, and the line
-/// for its count behind it, where counts are told.
+/// Answers the statements in order. Each answer is written before the next is computed, and the
+/// line for its count behind it, where counts are told.
 pub(crate) fn write_answers<O: Sink, E: Sink, L: Ledger>(
     alloc: Global,
     tells: bool,
@@ -84,8 +87,10 @@ pub(crate) fn write_answers<O: Sink, E: Sink, L: Ledger>(
     steps: &mut Steps<L>,
 ) -> Result<(), Halt>
     requires { All (IsAnswerable tables.now) blocks.now }
-    ensures wrote { WritesAnswers tells tables.now blocks.now (O.faults out.old) (O.faults out.new) (O.written out.old) (O.written out.new)
-        (E.faults err.old) (E.faults err.new) (E.written err.old) (E.written err.new) steps.old steps.new result }
+    ensures wrote { WritesAnswers tells tables.now blocks.now (O.faults out.old) (O.faults out.new)
+        (O.written out.old) (O.written out.new)
+        (E.faults err.old) (E.faults err.new) (E.written err.old)
+        (E.written err.new) steps.old steps.new result }
     ensures kept { (IsErrOf result Halt.WriteFault → ⊥)
         → (O.faults out.new ≡ O.faults out.old) × (E.faults err.new ≡ E.faults err.old) }
 {

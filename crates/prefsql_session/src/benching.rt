@@ -26,13 +26,15 @@ fn row_count<L: Ledger>(
     ensures rows { IfOk result (λ found. found.0 ≡ length (answer_of tables.now block.now).rows) }
     ensures tests { IfOk result (λ found. IsTestCount tables.now block.now found.1) }
     ensures least_steps { IfOk result (λ found. steps.old + found.1 ≤ steps.new) }
-    ensures most_steps { IfOk result (λ found. found.1 < last_count → steps.new ≤ steps.old + 8 * found.1) }
+    ensures most_steps { IfOk result
+        (λ found. found.1 < last_count → steps.new ≤ steps.old + 8 * found.1) }
 {
     let found = answered(alloc, tables, block, steps)?;
     Ok((found.answer.rows.as_slice().len(), found.tests))
 }
 
-/// What the bench over a table of so many rows writes: its three queries are answered by their plans.
+/// What the bench over a table of so many rows writes: its three queries are answered by their
+/// plans.
 pub(crate) fn summary<L: Ledger>(
     alloc: Global,
     count: u32,
@@ -40,7 +42,9 @@ pub(crate) fn summary<L: Ledger>(
 ) -> Result<Vec<u8>, Memory>
     requires { IsBenchCount count }
     ensures text { IfOk result (λ text. text.items ≡ bench_summary count) }
-    ensures counted { IfOk result (λ text. (tests : List ℕ) × Takes (bench_set count) statements.bench_blocks tests steps.old steps.new) }
+    ensures counted { IfOk result
+        (λ text. (tests : List ℕ)
+        × Takes (bench_set count) statements.bench_blocks tests steps.old steps.new) }
 {
     let tables = bench_tables(alloc, count)?;
     let blocks = bench_blocks(alloc)?;

@@ -107,7 +107,8 @@ fn script_command(
     counts: bool,
     words: &[&str],
 ) -> Result<Option<Command>, Memory>
-    ensures { IfOk result (λ command. command ≡ script_command name.now counts (map (λ word. word.now) words.now)) }
+    ensures { IfOk result
+        (λ command. command ≡ script_command name.now counts (map (λ word. word.now) words.now)) }
 {
     let Some(task) = task_named(name, counts) else {
         return Ok(None);
@@ -123,7 +124,8 @@ fn command_of(
     counts: bool,
     words: &[&str],
 ) -> Result<Option<Command>, Memory>
-    ensures { IfOk result (λ command. command ≡ command_of name.now counts (map (λ word. word.now) words.now)) }
+    ensures { IfOk result
+        (λ command. command ≡ command_of name.now counts (map (λ word. word.now) words.now)) }
 {
     if name != "bench" {
         return script_command(alloc, name, counts, words);
@@ -136,8 +138,10 @@ fn command_of(
 
 // What `clap` reads of the words, where it takes them.
 fn read<'a>(alloc: Global, words: &'a [&'a str]) -> Result<Option<ArgMatches<'a>>, Memory>
-    ensures { IfOk result (λ read. MatchOption read (takes words_app (map (λ word. word.now) words.now) ≡ true → ⊥)
-        (λ matches. (rows_of (found_of matches) ≡ matches_of words_app (map (λ word. word.now) words.now))
+    ensures { IfOk result
+        (λ read. MatchOption read (takes words_app (map (λ word. word.now) words.now) ≡ true → ⊥)
+        (λ matches. (rows_of (found_of matches)
+        ≡ matches_of words_app (map (λ word. word.now) words.now))
         × (fault_of words_app (map (λ word. word.now) words.now) ≡ []))) }
 {
     let command = words_command(alloc)?;
@@ -154,7 +158,8 @@ fn read<'a>(alloc: Global, words: &'a [&'a str]) -> Result<Option<ArgMatches<'a>
 
 // The command that the matches name.
 fn meaning(alloc: Global, matches: &ArgMatches<'_>) -> Result<Option<Command>, Memory>
-    ensures { (name : List ℕ) (counts : Bool) (words : List (List ℕ)) → Reads name counts words (rows_of (found_of matches.now))
+    ensures { (name : List ℕ) (counts : Bool) (words : List (List ℕ))
+        → Reads name counts words (rows_of (found_of matches.now))
         → IfOk result (λ command. command ≡ command_of name counts words) }
 {
     let Some(name) = matches.get_str("command") else {
@@ -207,7 +212,8 @@ fn strs<'a>(alloc: Global, words: &'a [Text]) -> Result<Vec<&'a str>, Memory>
     Ok(strs)
 }
 
-/// What the words of a command line mean, where they are accepted. The only error is want of memory.
+/// What the words of a command line mean, where they are accepted. The only error is want of
+/// memory.
 pub(crate) fn accepted(alloc: Global, words: &[Text]) -> Result<Option<Command>, Memory>
     ensures { IfOk result (λ command. command ≡ accepted words.now) }
 {

@@ -50,11 +50,13 @@ fn write_query<O: Sink>(
     out: &mut O,
 ) -> Result<(), Halt>
     requires { IsExecutable tables.now query.now }
-    ensures all { OnOk result (Appends (O.written out.old) (O.written out.new) (query_text tables.now query.now)) }
+    ensures all { OnOk result
+        (Appends (O.written out.old) (O.written out.new) (query_text tables.now query.now)) }
     ensures less { IsErrOf result Halt.WriteFault
         → AppendsLess (O.written out.old) (O.written out.new) (query_text tables.now query.now) }
     ensures kept { IsErrOf result Halt.Memory → Keeps (O.written out.old) (O.written out.new) }
-    ensures cause { HasCause (O.faults out.old) (O.faults out.new) (IsErrOf result Halt.WriteFault) }
+    ensures cause { HasCause (O.faults out.old) (O.faults out.new)
+        (IsErrOf result Halt.WriteFault) }
     ensures same { (IsErrOf result Halt.WriteFault → ⊥) → O.faults out.new ≡ O.faults out.old }
 {
     let text = query_text(alloc, tables, query)?;
@@ -72,11 +74,14 @@ pub(crate) fn write_queries<O: Sink>(
     requires { AreExecutable tables.now queries.now }
     ensures all { OnOk result (Appends (O.written out.old) (O.written out.new)
         (flat_map (query_text tables.now) queries.now)) }
-    ensures less { IsErrOf result Halt.WriteFault → AppendsLess (O.written out.old) (O.written out.new)
+    ensures less { IsErrOf result Halt.WriteFault
+        → AppendsLess (O.written out.old) (O.written out.new)
         (flat_map (query_text tables.now) queries.now) }
     ensures front { IsErrOf result Halt.Memory
-        → GetsFront (λ text. text ≡ flat_map (query_text tables.now) queries.now) (O.written out.old) (O.written out.new) }
-    ensures cause { HasCause (O.faults out.old) (O.faults out.new) (IsErrOf result Halt.WriteFault) }
+        → GetsFront (λ text. text ≡ flat_map (query_text tables.now) queries.now)
+        (O.written out.old) (O.written out.new) }
+    ensures cause { HasCause (O.faults out.old) (O.faults out.new)
+        (IsErrOf result Halt.WriteFault) }
     ensures same { (IsErrOf result Halt.WriteFault → ⊥) → O.faults out.new ≡ O.faults out.old }
 {
     for query in queries {

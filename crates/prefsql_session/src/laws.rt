@@ -14,11 +14,11 @@ ghost use Rattle.prefsql_session.specs.declared.command.Task.TheVariants.{Ask, E
 ghost use Rattle.prefsql_session.specs.declared.command.Wish.TheVariants.{Answer, Show};
 ghost use Rattle.prefsql_session.specs.declared.work.Work.{Work};
 
-/// The law of a text that is written and then executed. Let a run of `rewrite` over a script come to
-/// its work, and let that be written as `run` ensures at its good end. Over any valid tables with the
-/// same names in the same order and equal columns, a run of `execute` over the text of that work, if
-/// it is no longer than a script may be, and a run of `answer` over the first script come to good
-/// ends, and write the same text.
+/// The law of a text that is written and then executed. Let a run of `rewrite` over a script come
+/// to its work, and let that be written as `run` ensures at its good end. Over any valid tables
+/// with the same names in the same order and equal columns, a run of `execute` over the text of
+/// that work, if it is no longer than a script may be, and a run of `answer` over the first script
+/// come to good ends, and write the same text.
 pub fn written_text_executes()
     ensures { (rewriting executing answering : List (List ℕ)) (files others : Option Files)
         (tables other_tables : Tables) (tells : Bool) (script : List ℕ) (work : Work)

@@ -32,14 +32,20 @@ fn prepare_script<S: Source, H: Shelf>(
 ) -> Result<Work, Stop>
     requires few { length words.now ≤ 8 }
     requires named { All (λ (word : TableWord). IsName word.name) words.now }
-    ensures follows { Prepares (GoesOn (job_stage (H.files shelf.old) (OnScript task words.now)) (S.left script.old))
-        (job_stage (H.files shelf.old) (OnScript task words.now)) (Some (OnScript task words.now)) result }
+    ensures follows { Prepares (GoesOn (job_stage (H.files shelf.old) (OnScript task words.now))
+        (S.left script.old))
+        (job_stage (H.files shelf.old) (OnScript task words.now))
+        (Some (OnScript task words.now)) result }
     ensures asked { IfOk result (IsOfTask task) }
     ensures texts { IfOk result HasTexts }
-    ensures read { HasCause (S.faults script.old) (S.faults script.new) (IsErrOf result Stop.ReadFault) }
-    ensures load { HasCause (H.faults shelf.old) (H.faults shelf.new) (IsErrOf result Stop.ShelfFault) }
-    ensures script_kept { (IsErrOf result Stop.ReadFault → ⊥) → S.faults script.new ≡ S.faults script.old }
-    ensures shelf_kept { (IsErrOf result Stop.ShelfFault → ⊥) → H.faults shelf.new ≡ H.faults shelf.old }
+    ensures read { HasCause (S.faults script.old) (S.faults script.new)
+        (IsErrOf result Stop.ReadFault) }
+    ensures load { HasCause (H.faults shelf.old) (H.faults shelf.new)
+        (IsErrOf result Stop.ShelfFault) }
+    ensures script_kept { (IsErrOf result Stop.ReadFault → ⊥)
+        → S.faults script.new ≡ S.faults script.old }
+    ensures shelf_kept { (IsErrOf result Stop.ShelfFault → ⊥)
+        → H.faults shelf.new ≡ H.faults shelf.old }
     ensures sure { IsTrue (H.sure shelf.old) → IsErrOf result Stop.ShelfFault
         → job_stage (H.files shelf.old) (OnScript task words.now) ≡ missing }
     ensures end { OnOk result (IsAtEnd (S.left script.new)) }
@@ -48,7 +54,8 @@ fn prepare_script<S: Source, H: Shelf>(
     read_work(alloc, task, tables, script)
 }
 
-/// Does the work of a run up to the writing: it judges the words, opens the tables and reads the script.
+/// Does the work of a run up to the writing: it judges the words, opens the tables and reads the
+/// script.
 pub(crate) fn prepare<S: Source, H: Shelf>(
     alloc: Global,
     words: &[Text],
@@ -59,14 +66,19 @@ pub(crate) fn prepare<S: Source, H: Shelf>(
         (opening words.now (H.files shelf.old)) (accepted words.now) result }
     ensures asked { IfOk result (IsAskedFor (accepted words.now)) }
     ensures texts { IfOk result HasTexts }
-    ensures read { HasCause (S.faults script.old) (S.faults script.new) (IsErrOf result Stop.ReadFault) }
-    ensures load { HasCause (H.faults shelf.old) (H.faults shelf.new) (IsErrOf result Stop.ShelfFault) }
-    ensures script_kept { (IsErrOf result Stop.ReadFault → ⊥) → S.faults script.new ≡ S.faults script.old }
-    ensures shelf_kept { (IsErrOf result Stop.ShelfFault → ⊥) → H.faults shelf.new ≡ H.faults shelf.old }
+    ensures read { HasCause (S.faults script.old) (S.faults script.new)
+        (IsErrOf result Stop.ReadFault) }
+    ensures load { HasCause (H.faults shelf.old) (H.faults shelf.new)
+        (IsErrOf result Stop.ShelfFault) }
+    ensures script_kept { (IsErrOf result Stop.ReadFault → ⊥)
+        → S.faults script.new ≡ S.faults script.old }
+    ensures shelf_kept { (IsErrOf result Stop.ShelfFault → ⊥)
+        → H.faults shelf.new ≡ H.faults shelf.old }
     ensures sure { IsTrue (H.sure shelf.old) → IsErrOf result Stop.ShelfFault
         → opening words.now (H.files shelf.old) ≡ missing }
     ensures end { OnOk result (AsksForScript (accepted words.now) → IsAtEnd (S.left script.new)) }
-    ensures unasked { (AsksForScript (accepted words.now) → ⊥) → S.left script.new ≡ S.left script.old }
+    ensures unasked { (AsksForScript (accepted words.now) → ⊥)
+        → S.left script.new ≡ S.left script.old }
 {
     let Some(command) = accepted(alloc, words)? else {
         return Err(Stop::Usage);

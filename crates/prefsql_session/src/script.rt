@@ -40,7 +40,8 @@ fn script_limit(task: Task) -> u32
 // Reads the script to its end.
 fn read_script<S: Source>(alloc: Global, script: &mut S, limit: u32) -> Result<Vec<u8>, Stop>
     ensures follows { Reads limit (S.left script.old) result }
-    ensures read { HasCause (S.faults script.old) (S.faults script.new) (IsErrOf result Stop.ReadFault) }
+    ensures read { HasCause (S.faults script.old) (S.faults script.new)
+        (IsErrOf result Stop.ReadFault) }
     ensures kept { (IsErrOf result Stop.ReadFault → ⊥) → S.faults script.new ≡ S.faults script.old }
     ensures end { OnOk result (IsAtEnd (S.left script.new)) }
 {
@@ -107,7 +108,8 @@ pub(crate) fn read_work<S: Source>(
     ensures follows { Ends task tables (S.left script.old) result }
     ensures asked { IfOk result (IsOfTask task) }
     ensures texts { IfOk result HasTexts }
-    ensures read { HasCause (S.faults script.old) (S.faults script.new) (IsErrOf result Stop.ReadFault) }
+    ensures read { HasCause (S.faults script.old) (S.faults script.new)
+        (IsErrOf result Stop.ReadFault) }
     ensures kept { (IsErrOf result Stop.ReadFault → ⊥) → S.faults script.new ≡ S.faults script.old }
     ensures end { OnOk result (IsAtEnd (S.left script.new)) }
 {

@@ -53,7 +53,8 @@ fn each_table_word(alloc: Global, words: &[&str]) -> Result<Option<List<TableWor
     Ok(Some(tables))
 }
 
-/// What these words mean, where they are at most eight table words. The only error is want of memory.
+/// What these words mean, where they are at most eight table words. The only error is want of
+/// memory.
 pub(crate) fn table_words(alloc: Global, words: &[&str]) -> Result<Option<List<TableWord>>, Memory>
     ensures { IfOk result (λ tables. tables ≡ table_words (map (λ word. word.now) words.now)) }
 {

@@ -52,8 +52,10 @@ fn table_of_bytes(alloc: Global, name: &Text, bytes: &[u8]) -> Result<Table, Sto
 
 // The file of a table word as a table.
 fn load_table<H: Shelf>(alloc: Global, word: &TableWord, shelf: &mut H) -> Result<Table, Stop>
-    ensures follows { Opens (and_then (file_stage (H.files shelf.old) word.now.path) (table_of_bytes word.now.name)) result }
-    ensures load { HasCause (H.faults shelf.old) (H.faults shelf.new) (IsErrOf result Stop.ShelfFault) }
+    ensures follows { Opens (and_then (file_stage (H.files shelf.old) word.now.path)
+        (table_of_bytes word.now.name)) result }
+    ensures load { HasCause (H.faults shelf.old) (H.faults shelf.new)
+        (IsErrOf result Stop.ShelfFault) }
     ensures kept { (IsErrOf result Stop.ShelfFault → ⊥) → H.faults shelf.new ≡ H.faults shelf.old }
     ensures sure { IsTrue (H.sure shelf.old) → IsErrOf result Stop.ShelfFault
         → file_stage (H.files shelf.old) word.now.path ≡ missing }
@@ -74,8 +76,10 @@ fn open_table<H: Shelf>(
     word: &TableWord,
     shelf: &mut H,
 ) -> Result<Table, Stop>
-    ensures follows { Opens (table_stage (H.files shelf.old) (table_names before.now) word.now) result }
-    ensures load { HasCause (H.faults shelf.old) (H.faults shelf.new) (IsErrOf result Stop.ShelfFault) }
+    ensures follows { Opens (table_stage (H.files shelf.old) (table_names before.now) word.now)
+        result }
+    ensures load { HasCause (H.faults shelf.old) (H.faults shelf.new)
+        (IsErrOf result Stop.ShelfFault) }
     ensures kept { (IsErrOf result Stop.ShelfFault → ⊥) → H.faults shelf.new ≡ H.faults shelf.old }
     ensures sure { IsTrue (H.sure shelf.old) → IsErrOf result Stop.ShelfFault
         → table_stage (H.files shelf.old) (table_names before.now) word.now ≡ missing }
@@ -87,7 +91,8 @@ fn open_table<H: Shelf>(
     load_table(alloc, word, shelf)
 }
 
-/// Loads the tables of the words in their order. A name that stands before is refused before its file is loaded.
+/// Loads the tables of the words in their order. A name that stands before is refused before its
+/// file is loaded.
 pub(crate) fn open_tables<H: Shelf>(
     alloc: Global,
     words: &[TableWord],
@@ -97,7 +102,8 @@ pub(crate) fn open_tables<H: Shelf>(
     requires named { All (λ (word : TableWord). IsName word.name) words.now }
     ensures follows { Opens (tables_stage (H.files shelf.old) words.now) result }
     ensures asked { IsErrOf result Stop.ShelfFault → 0 < length words.now }
-    ensures load { HasCause (H.faults shelf.old) (H.faults shelf.new) (IsErrOf result Stop.ShelfFault) }
+    ensures load { HasCause (H.faults shelf.old) (H.faults shelf.new)
+        (IsErrOf result Stop.ShelfFault) }
     ensures kept { (IsErrOf result Stop.ShelfFault → ⊥) → H.faults shelf.new ≡ H.faults shelf.old }
     ensures sure { IsTrue (H.sure shelf.old) → IsErrOf result Stop.ShelfFault
         → tables_stage (H.files shelf.old) words.now ≡ missing }

@@ -82,12 +82,15 @@ fn write_shown<O: Sink>(
     out: &mut O,
 ) -> Result<(), Halt>
     requires { IsAnswerable tables.now block.now }
-    ensures all { OnOk result (Appends (O.written out.old) (O.written out.new) (shown_text shown tables.now block.now)) }
+    ensures all { OnOk result
+        (Appends (O.written out.old) (O.written out.new) (shown_text shown tables.now block.now)) }
     ensures utf8 { OnOk result (AreUtf8 shown (block.now ∷ [])) }
     ensures less { IsErrOf result Halt.WriteFault
-        → AppendsLess (O.written out.old) (O.written out.new) (shown_text shown tables.now block.now) }
+        → AppendsLess (O.written out.old) (O.written out.new)
+        (shown_text shown tables.now block.now) }
     ensures kept { IsErrOf result Halt.Memory → Keeps (O.written out.old) (O.written out.new) }
-    ensures cause { HasCause (O.faults out.old) (O.faults out.new) (IsErrOf result Halt.WriteFault) }
+    ensures cause { HasCause (O.faults out.old) (O.faults out.new)
+        (IsErrOf result Halt.WriteFault) }
     ensures same { (IsErrOf result Halt.WriteFault → ⊥) → O.faults out.new ≡ O.faults out.old }
 {
     let text = shown_text(alloc, shown, tables, block)?;
@@ -107,11 +110,14 @@ fn write_all_shown<O: Sink>(
     ensures all { OnOk result (Appends (O.written out.old) (O.written out.new)
         (flat_map (shown_text shown tables.now) blocks.now)) }
     ensures utf8 { OnOk result (AreUtf8 shown blocks.now) }
-    ensures less { IsErrOf result Halt.WriteFault → AppendsLess (O.written out.old) (O.written out.new)
+    ensures less { IsErrOf result Halt.WriteFault
+        → AppendsLess (O.written out.old) (O.written out.new)
         (flat_map (shown_text shown tables.now) blocks.now) }
     ensures front { IsErrOf result Halt.Memory
-        → GetsFront (λ text. text ≡ flat_map (shown_text shown tables.now) blocks.now) (O.written out.old) (O.written out.new) }
-    ensures cause { HasCause (O.faults out.old) (O.faults out.new) (IsErrOf result Halt.WriteFault) }
+        → GetsFront (λ text. text ≡ flat_map (shown_text shown tables.now) blocks.now)
+        (O.written out.old) (O.written out.new) }
+    ensures cause { HasCause (O.faults out.old) (O.faults out.new)
+        (IsErrOf result Halt.WriteFault) }
     ensures same { (IsErrOf result Halt.WriteFault → ⊥) → O.faults out.new ≡ O.faults out.old }
 {
     for block in blocks {
@@ -131,8 +137,10 @@ fn write_wish<O: Sink, E: Sink, L: Ledger>(
     steps: &mut Steps<L>,
 ) -> Result<(), Halt>
     requires { All (IsAnswerable tables.now) blocks.now }
-    ensures wrote { WritesOrHalts (Statements wish tables.now blocks.now) (O.faults out.old) (O.faults out.new) (O.written out.old) (O.written out.new)
-        (E.faults err.old) (E.faults err.new) (E.written err.old) (E.written err.new) steps.old steps.new result }
+    ensures wrote { WritesOrHalts (Statements wish tables.now blocks.now) (O.faults out.old)
+        (O.faults out.new) (O.written out.old) (O.written out.new)
+        (E.faults err.old) (E.faults err.new) (E.written err.old)
+        (E.written err.new) steps.old steps.new result }
     ensures kept { (IsErrOf result Halt.WriteFault → ⊥)
         → (O.faults out.new ≡ O.faults out.old) × (E.faults err.new ≡ E.faults err.old) }
 {
@@ -150,11 +158,15 @@ fn write_bench<O: Sink, L: Ledger>(
     steps: &mut Steps<L>,
 ) -> Result<(), Halt>
     requires { IsBenchCount count }
-    ensures all { OnOk result (Appends (O.written out.old) (O.written out.new) (bench_summary count)) }
-    ensures counted { OnOk result ((tests : List ℕ) × Takes (bench_set count) bench_blocks tests steps.old steps.new) }
-    ensures less { IsErrOf result Halt.WriteFault → AppendsLess (O.written out.old) (O.written out.new) (bench_summary count) }
+    ensures all { OnOk result
+        (Appends (O.written out.old) (O.written out.new) (bench_summary count)) }
+    ensures counted { OnOk result ((tests : List ℕ)
+        × Takes (bench_set count) bench_blocks tests steps.old steps.new) }
+    ensures less { IsErrOf result Halt.WriteFault
+        → AppendsLess (O.written out.old) (O.written out.new) (bench_summary count) }
     ensures kept { IsErrOf result Halt.Memory → Keeps (O.written out.old) (O.written out.new) }
-    ensures cause { HasCause (O.faults out.old) (O.faults out.new) (IsErrOf result Halt.WriteFault) }
+    ensures cause { HasCause (O.faults out.old) (O.faults out.new)
+        (IsErrOf result Halt.WriteFault) }
     ensures same { (IsErrOf result Halt.WriteFault → ⊥) → O.faults out.new ≡ O.faults out.old }
 {
     let text = summary(alloc, count, steps)?;
@@ -171,8 +183,10 @@ fn write_texts<O: Sink, E: Sink, L: Ledger>(
     steps: &mut Steps<L>,
 ) -> Result<(), Halt>
     requires { HasTexts work.now }
-    ensures wrote { WritesOrHalts work.now (O.faults out.old) (O.faults out.new) (O.written out.old) (O.written out.new)
-        (E.faults err.old) (E.faults err.new) (E.written err.old) (E.written err.new) steps.old steps.new result }
+    ensures wrote { WritesOrHalts work.now (O.faults out.old) (O.faults out.new) (O.written out.old)
+        (O.written out.new)
+        (E.faults err.old) (E.faults err.new) (E.written err.old)
+        (E.written err.new) steps.old steps.new result }
     ensures kept { (IsErrOf result Halt.WriteFault → ⊥)
         → (O.faults out.new ≡ O.faults out.old) × (E.faults err.new ≡ E.faults err.old) }
 {
@@ -194,8 +208,10 @@ pub(crate) fn write_work<O: Sink, E: Sink, L: Ledger>(
     steps: &mut Steps<L>,
 ) -> Status
     requires { HasTexts work.now }
-    ensures wrote { WritesWork work.now (O.faults out.old) (O.faults out.new) (O.written out.old) (O.written out.new)
-        (E.faults err.old) (E.faults err.new) (E.written err.old) (E.written err.new) steps.old steps.new result }
+    ensures wrote { WritesWork work.now (O.faults out.old) (O.faults out.new) (O.written out.old)
+        (O.written out.new)
+        (E.faults err.old) (E.faults err.new) (E.written err.old)
+        (E.written err.new) steps.old steps.new result }
     ensures kept { (result ≡ Status.WriteFault → ⊥)
         → (O.faults out.new ≡ O.faults out.old) × (E.faults err.new ≡ E.faults err.old) }
 {

@@ -1,5 +1,5 @@
--- The one list of an answer's rows that is arranged: what it is says `IsArranged`, and the sort below only shows that there
--- is one. By it later definitions name that list.
+-- The one list of an answer's rows that is arranged: what it is says `IsArranged`, and the sort
+-- below only shows that there is one. By it later definitions name that list.
 use Rattle.std.specs.Prelude.{◌≡◌, ◌↔◌, Bool, cond, List, [], ◌∷◌}
 use Rattle.std.specs.Ordering.{is_lt}
 use Rattle.prefsql_tables.specs.Arranged.{IsArranged}
@@ -11,7 +11,8 @@ use Rattle.prefsql_tables.specs.declared.table.AnswerRow.{AnswerRow}
 -- sorted rows and one more at its place
 abbrev pub placed : List SortKey → AnswerRow → List AnswerRow → List AnswerRow
 placed keys row [] = row ∷ []
-placed keys row (other ∷ others) = cond (is_lt (row_order keys other row)) (other ∷ placed keys row others) (row ∷ other ∷ others)
+placed keys row (other ∷ others) =
+    cond (is_lt (row_order keys other row)) (other ∷ placed keys row others) (row ∷ other ∷ others)
 
 abbrev pub in_order : List SortKey → List AnswerRow → List AnswerRow
 in_order keys [] = []
@@ -22,4 +23,5 @@ arranged distinct keys given = in_order keys (cond distinct (each_once given) gi
 
 -- there is exactly one such list
 abbrev pub HasOneArrangement : Type 0
-HasOneArrangement = (distinct : Bool) (keys : List SortKey) (given rows : List AnswerRow) → IsArranged distinct keys given rows ↔ (rows ≡ arranged distinct keys given)
+HasOneArrangement = (distinct : Bool) (keys : List SortKey) (given rows : List AnswerRow)
+    → IsArranged distinct keys given rows ↔ (rows ≡ arranged distinct keys given)

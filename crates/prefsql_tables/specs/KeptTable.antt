@@ -11,7 +11,8 @@ use Rattle.prefsql_tables.specs.declared.schema.Column.{Column}
 use Rattle.prefsql_tables.specs.declared.table.AnswerRow.{AnswerRow}
 
 abbrev pub values_in : List CellsData → ℕ → List Value
-values_in columns column = slice_index_or (map (λ (cells : CellsData). cells.values) columns) column []
+values_in columns column =
+    slice_index_or (map (λ (cells : CellsData). cells.values) columns) column []
 
 -- the value of a row in a column, and NULL where none is kept
 abbrev pub cell_kept : List CellsData → ℕ → ℕ → Value
@@ -22,7 +23,10 @@ row_kept columns width row = record { cells = map (cell_kept columns row) (range
 
 -- the table with these columns whose first rows are kept
 abbrev pub table_kept : List Column → List CellsData → ℕ → TableData
-table_kept columns cells count = record { columns = columns; rows = map (row_kept cells (length columns)) (range_with_len 0 count) }
+table_kept columns cells count = record {
+  columns = columns;
+  rows = map (row_kept cells (length columns)) (range_with_len 0 count);
+}
 
 abbrev pub domains_of : List CellsData → List Domain
 domains_of = map (λ (cells : CellsData). cells.domain)
@@ -55,9 +59,11 @@ AdmitRow (domain ∷ domains) (value ∷ values) = Admits domain value × AdmitR
 pub record KeepRows (count : ℕ) (old new : List CellsData) : Type 0 where
   pub domains : domains_of new ≡ domains_of old
   pub cells : (row column : ℕ) → row < count → cell_kept new row column ≡ cell_kept old row column
-  pub reach : (column : ℕ) → count ≤ length (values_in old column) → count ≤ length (values_in new column)
+  pub reach : (column : ℕ) → count ≤ length (values_in old column)
+      → count ≤ length (values_in new column)
 
 -- the values stand in the row with this number
 pub record HaveRow (row : ℕ) (values : List Value) (columns : List CellsData) : Type 0 where
-  pub cells : (column : ℕ) → column < length values → cell_kept columns row column ≡ slice_index_or values column Null
+  pub cells : (column : ℕ) → column < length values
+      → cell_kept columns row column ≡ slice_index_or values column Null
   pub reach : (column : ℕ) → column < length values → row < length (values_in columns column)

@@ -1,10 +1,12 @@
 -- Columns and tables by their names.
-use Rattle.std.specs.Prelude.{ℕ, ◌≡◌, ◌↔◌, List, Option, Some, IfSome, IsNone, Contains, map, position, slice_get}
+use Rattle.std.specs.Prelude.{ℕ, ◌≡◌, ◌↔◌, List, Option, Some, IfSome, IsNone, Contains, map}
+use Rattle.std.specs.Prelude.{position, slice_get}
 use Rattle.std.specs.Str.{bytes_eq}
 use Rattle.prefsql_tables.specs.declared.schema.Column.{Column}
 use Rattle.prefsql_tables.specs.TableData.{NamedTable}
 
--- the place, from 0, at which the name stands among the names, and None exactly where it is not among them
+-- the place, from 0, at which the name stands among the names, and None exactly where it is not
+-- among them
 pub record IsPlaceAmong (names : List (List ℕ)) (name : List ℕ) (place : Option ℕ) : Type 0 where
   pub found : IfSome place (λ at. slice_get names at ≡ Some name)
   pub none : IsNone place ↔ ¬ Contains names name

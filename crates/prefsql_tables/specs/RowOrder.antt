@@ -1,5 +1,5 @@
--- The order of an answer's rows (ISO/IEC 9075:1992, ORDER BY). The place of NULL, which is after all values, and the
--- order by all columns behind the keys are this project's own.
+-- The order of an answer's rows (ISO/IEC 9075:1992, ORDER BY). The place of NULL, which is after
+-- all values, and the order by all columns behind the keys are this project's own.
 use Rattle.std.specs.Prelude.{cond, List, [], ◌∷◌}
 use Rattle.std.specs.Cmp.Lexicographic.{slice_cmp}
 use Rattle.std.specs.Ordering.{ordering_then, ordering_reverse}

@@ -41,7 +41,8 @@ pub record HasCell (tables : Tables) (t row column : ℕ) : Type 0 where
   pub column_in : column < length (columns_of tables t)
 
 -- the table at the position has this name and these columns
-pub record IsTableAt (tables : Tables) (index : ℕ) (called : List ℕ) (schema : List Column) : Type 0 where
+pub record IsTableAt (tables : Tables) (index : ℕ) (called : List ℕ)
+    (schema : List Column) : Type 0 where
   pub there : index < length tables
   pub name : (table_at tables index).name ≡ called
   pub columns : columns_of tables index ≡ schema

@@ -1,5 +1,7 @@
--- Which names, columns, rows, tables and sets of tables are valid. The rules and limits are this project's own.
-use Rattle.std.specs.Prelude.{ℕ, ◌≡◌, ◌≢◌, ◌≤◌, ◌^◌, List, [], ◌∷◌, length, map, All, AllPairs, IsTrue}
+-- Which names, columns, rows, tables and sets of tables are valid. The rules and limits are this
+-- project's own.
+use Rattle.std.specs.Prelude.{ℕ, ◌≡◌, ◌≢◌, ◌≤◌, ◌^◌, List, [], ◌∷◌, length, map, All, AllPairs}
+use Rattle.std.specs.Prelude.{IsTrue}
 use Rattle.prefsql_values.specs.Limits.{IsName, IsShort}
 use Rattle.prefsql_values.specs.declared.value.Domain.TheVariants.{Integer, Chars}
 use Rattle.prefsql_values.specs.declared.value.Value.{Value}
@@ -20,7 +22,8 @@ pub record IsSchema (columns : List Column) : Type 0 where
   pub names : All IsName (names_of columns)
   pub differ : AllDiffer (names_of columns)
 
--- a value that the column may hold: a number of at most 18 digits, a text, or NULL where the column admits it
+-- a value that the column may hold: a number of at most 18 digits, a text, or NULL where the column
+-- admits it
 abbrev pub IsCell : Column → Value → Type 0
 IsCell column (Num n) = (column.domain ≡ Integer) × IsShort n
 IsCell column (Str text) = column.domain ≡ Chars

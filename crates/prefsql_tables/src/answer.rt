@@ -22,8 +22,9 @@ pub struct Answer {
 impl Answer {
     /// The answer with its rows in their order, and with `distinct` without repetition.
     ///
-    /// The order is by the keys and then by all columns from left to right. Ascending, NULL stands after all values;
-    /// descending is the reverse. Two NULLs count as equal. After want of memory the answer is dropped.
+    /// The order is by the keys and then by all columns from left to right. Ascending, NULL stands
+    /// after all values; descending is the reverse. Two NULLs count as equal. After want of memory
+    /// the answer is dropped.
     pub fn arrange(self, alloc: Global, distinct: bool, keys: &[SortKey]) -> Result<Answer, Memory>
         ensures names { IfOk result (λ answer. answer.names ≡ self.names) }
         ensures rows { IfOk result (λ answer. IsArranged distinct keys.now self.rows answer.rows) }
@@ -69,7 +70,8 @@ fn without_repeats(alloc: Global, rows: Vec<AnswerRow>) -> Result<List<AnswerRow
 /// Whether the last of the rows is this one.
 fn ends_with(rows: &[AnswerRow], row: &AnswerRow) -> bool
     ensures there { OnTrue result (Contains rows.now row.now) }
-    ensures differs { OnFalse result ((d : AnswerRow) → 0 < length rows.now → slice_index_or rows.now (length rows.now - 1) d ≢ row.now) }
+    ensures differs { OnFalse result ((d : AnswerRow) → 0 < length rows.now
+        → slice_index_or rows.now (length rows.now - 1) d ≢ row.now) }
 {
     match rows.last() {
         Some(last) => is_same(last, row),

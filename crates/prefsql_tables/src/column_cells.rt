@@ -14,7 +14,8 @@ use std::marker::Model;
 /// What stands for NULL among numbers. A number of a table has at most eighteen digits.
 const NULL: i64 = i64::MIN;
 
-/// The cells of a column in the order of the rows. A contract sees the column's domain and the values.
+/// The cells of a column in the order of the rows. A contract sees the column's domain and the
+/// values.
 #[derive(Debug, Drop)]
 pub(crate) struct ColumnCells {
     kept: Kept,
@@ -51,8 +52,12 @@ impl ColumnCells {
     /// Puts the value behind the first `count` cells. What stood there is dropped.
     pub(crate) fn put(&mut self, count: usize, value: Value) -> Result<(), Memory>
         requires { Admits self.old.domain value }
-        ensures ok { OnOk result (self.new ≡ record self.old { values = take count self.old.values ++ value ∷ [] }) }
-        ensures err { OnErr result (self.new ≡ record self.old { values = take count self.old.values }) }
+        ensures ok { OnOk result (self.new ≡ record self.old {
+          values = take count self.old.values
+              ++ value ∷ [];
+        }) }
+        ensures err { OnErr result (self.new
+            ≡ record self.old { values = take count self.old.values }) }
     {
         match &mut self.kept {
             Kept::Numbers(numbers) => put_behind(numbers, count, number_of(value)),

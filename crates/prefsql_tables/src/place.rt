@@ -7,7 +7,8 @@ pub struct ColumnPlace {
     pub column: u32,
 }
 
-/// A combination: one row number for each of some FROM tables that stand in a row. Row numbers count from 0.
+/// A combination: one row number for each of some FROM tables that stand in a row. Row numbers
+/// count from 0.
 #[derive(Debug, Drop)]
 pub struct Combo {
     pub rows: List<u32>,

@@ -22,7 +22,8 @@ pub enum AddError {
     Memory,
 }
 
-/// Tables by their names, in the order in which they were added. A contract sees the list of names and tables.
+/// Tables by their names, in the order in which they were added. A contract sees the list of names
+/// and tables.
 #[derive(Drop)]
 pub struct TableSet {
     tables: IndexMap<String, Table>,
@@ -52,14 +53,17 @@ impl TableSet {
         }
     }
 
-    /// Adds the table with this name at the end. After a refusal the set is as it was, and the table is dropped.
+    /// Adds the table with this name at the end. After a refusal the set is as it was, and the
+    /// table is dropped.
     ///
     /// Duplicate is the answer exactly where the set has the name already.
     pub fn add_table(&mut self, name: Text, table: Table) -> Result<(), AddError>
         requires named { IsName name }
         requires room { length self.old < 2 ^ 32 }
-        ensures ok { OnOk result (self.new ≡ self.old ++ record { name = name; table = table } ∷ []) }
-        ensures duplicate { IsErrOf result AddError.Duplicate ↔ Contains (table_names self.old) name }
+        ensures ok { OnOk result (self.new ≡ self.old ++ record { name = name; table = table }
+            ∷ []) }
+        ensures duplicate { IsErrOf result AddError.Duplicate ↔ Contains
+            (table_names self.old) name }
         ensures err { OnErr result (self.new ≡ self.old) }
     {
         table.keeps_limits();
@@ -73,7 +77,8 @@ impl TableSet {
         }
     }
 
-    /// The position, from 0, of the table with this name. It is None exactly where no table has the name.
+    /// The position, from 0, of the table with this name. It is None exactly where no table has the
+    /// name.
     pub fn find(&self, name: &str) -> Option<u32>
         ensures place { result ≡ table_place self.now name.now }
         ensures named { IsPlaceAmong (table_names self.now) name.now result }
@@ -111,7 +116,8 @@ impl TableSet {
         self.table(table).row_count()
     }
 
-    /// The cell of a row and a column, both from 0, of the table at this position. It takes the same time everywhere.
+    /// The cell of a row and a column, both from 0, of the table at this position. It takes the
+    /// same time everywhere.
     pub fn cell(&self, table: u32, row: u32, column: u32) -> Cell<'_>
         requires { HasCell self.now table row column }
         ensures { value_of result ≡ cell_at self.now table row column }

@@ -6,8 +6,8 @@ use crate::place::{ColumnPlace, Combo};
 use crate::set::TableSet;
 use prefsql_values::Cell;
 
-/// The cell that a combination of rows has in a column. `from` has the position in the set of each FROM table, and the
-/// combination is of the FROM tables from position `first` on.
+/// The cell that a combination of rows has in a column. `from` has the position in the set of each
+/// FROM table, and the combination is of the FROM tables from position `first` on.
 pub fn cell_in_sight<'a>(
     place: ColumnPlace,
     tables: &'a TableSet,

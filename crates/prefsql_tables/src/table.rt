@@ -51,7 +51,8 @@ impl Table {
         }
     }
 
-    /// Adds the row at the end. After want of memory the table is as it was, and the row is dropped.
+    /// Adds the row at the end. After want of memory the table is as it was, and the row is
+    /// dropped.
     pub fn push_row(&mut self, row: AnswerRow) -> Result<(), Memory>
         requires valid { IsRow self.old.columns row.cells }
         requires room { length self.old.rows < 100000 }
@@ -114,7 +115,8 @@ impl AnswerRow {
 /// Gives each column its cells, none at first, where no column has them yet.
 fn begin(cells: &mut Vec<ColumnCells>, columns: &[Column]) -> Result<(), Memory>
     requires { HaveDomains cells.old.items columns.now }
-    ensures values { (column : ℕ) → values_in cells.new.items column ≡ values_in cells.old.items column }
+    ensures values { (column : ℕ) → values_in cells.new.items column
+        ≡ values_in cells.old.items column }
     ensures ok { OnOk result (domains_of cells.new.items ≡ column_domains columns.now) }
     ensures err { OnErr result (cells.new.items ≡ cells.old.items) }
 {
@@ -138,7 +140,8 @@ fn new_cells(alloc: Global, columns: &[Column]) -> Result<Vec<ColumnCells>, Allo
 /// Puts a row behind the first `count` rows, which want of memory leaves as they were too.
 fn put_row(columns: &mut Vec<ColumnCells>, count: usize, row: Vec<Value>) -> Result<(), Memory>
     requires admitted { AdmitRow (domains_of columns.old.items) row.items }
-    requires reach { (column : ℕ) → column < length row.items → count ≤ length (values_in columns.old.items column) }
+    requires reach { (column : ℕ) → column < length row.items
+        → count ≤ length (values_in columns.old.items column) }
     ensures kept { KeepRows count columns.old.items columns.new.items }
     ensures ok { OnOk result (HaveRow count row.items columns.new.items) }
 {

@@ -10,7 +10,8 @@ use std::process::Abort;
 use std::test::Fail;
 
 fn column(alloc: Global, name: &str, domain: Domain, nullable: bool) -> Result<Column, Memory>
-    ensures { IfOk result (λ column. column ≡ record { name = name.now; domain = domain; nullable = nullable }) }
+    ensures { IfOk result
+        (λ column. column ≡ record { name = name.now; domain = domain; nullable = nullable }) }
 {
     let name = Text::of(alloc, name)?;
     Ok(Column {
@@ -21,7 +22,9 @@ fn column(alloc: Global, name: &str, domain: Domain, nullable: bool) -> Result<C
 }
 
 fn schema(alloc: Global) -> Result<Schema, Memory>
-    ensures { IfOk result (λ schema. schema.columns ≡ record { name = codes "ID"; domain = Integer; nullable = false } ∷ record { name = codes "DEALER"; domain = Chars; nullable = true } ∷ []) }
+    ensures { IfOk result
+        (λ schema. schema.columns ≡ record { name = codes "ID"; domain = Integer; nullable = false }
+        ∷ record { name = codes "DEALER"; domain = Chars; nullable = true } ∷ []) }
 {
     let mut columns = List::new(alloc);
     columns.push(column(alloc, "ID", Domain::Integer, false)?)?;
@@ -78,7 +81,8 @@ fn a_name_stands_once(rt: HostRuntime) -> Result<(), Fail> {
     Ok(())
 }
 
-// The dealers and colors of five cars, each twice, by `SELECT DISTINCT dealer, color FROM cars ORDER BY dealer DESC`.
+// The dealers and colors of five cars, each twice, by `SELECT DISTINCT dealer, color FROM cars
+// ORDER BY dealer DESC`.
 #[test]
 fn null_is_first_descending(rt: HostRuntime) -> Result<(), Fail> {
     let mut rows = List::new(rt.alloc());

@@ -1,5 +1,6 @@
--- Which conditions stand in parentheses where a text has as few of them as it allows: AND binds before OR (ISO/IEC
--- 9075:1992), and a part that is of its own kind, or that follows NOT, keeps its parentheses.
+-- Which conditions stand in parentheses where a text has as few of them as it allows: AND binds
+-- before OR (ISO/IEC 9075:1992), and a part that is of its own kind, or that follows NOT, keeps its
+-- parentheses.
 use Rattle.std.specs.Prelude.{ℕ, ◌+◌, Bool, true, false, List, [], ◌∷◌, max}
 
 -- where a condition stands: by itself, as a part of an And, as a part of an Or, or after NOT

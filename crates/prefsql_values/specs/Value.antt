@@ -1,4 +1,5 @@
--- Values, and how SQL compares them (ISO/IEC 9075:1992). The place of NULL in an order is this project's own.
+-- Values, and how SQL compares them (ISO/IEC 9075:1992). The place of NULL in an order is this
+-- project's own.
 use Rattle.std.specs.Prelude.{Bool, true, false, cond, ◌||◌, Option, Some, None, List, map}
 use Rattle.std.specs.Ordering.{int_cmp, int_eq}
 use Rattle.std.specs.Str.{bytes_eq}
@@ -38,8 +39,8 @@ value_eq Null (Num n) = false
 value_eq Null (Str t) = false
 value_eq Null Null = true
 
--- the order in which NULL is last: numbers by size, texts by their code points. A number is before a text, so that any
--- two values have an order
+-- the order in which NULL is last: numbers by size, texts by their code points. A number is before
+-- a text, so that any two values have an order
 abbrev pub nulls_last : Value → Value → Ordering
 nulls_last (Num a) (Num b) = int_cmp a b
 nulls_last (Num a) (Str t) = Less

@@ -4,7 +4,8 @@ use crate::memory::Memory;
 use std::alloc::Global;
 use std::marker::Model;
 
-/// An owned value on the heap, by which a tree leads back to itself. A contract sees it as the value.
+/// An owned value on the heap, by which a tree leads back to itself. A contract sees it as the
+/// value.
 #[derive(Debug, Drop)]
 pub struct Boxed<T> {
     inner: Box<T>,

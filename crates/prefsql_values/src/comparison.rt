@@ -22,12 +22,14 @@ impl CompareOp {
     }
 }
 
-/// The order of two values: numbers by size, texts by their code points. It is None exactly where one is NULL.
+/// The order of two values: numbers by size, texts by their code points. It is None exactly where
+/// one is NULL.
 ///
 /// Values of two domains are not compared by any query; here a number is before a text.
 pub fn compare(a: Cell<'_>, b: Cell<'_>) -> Option<Ordering>
     ensures order { result ≡ value_order (value_of a.entry) (value_of b.entry) }
-    ensures null { IsNone result ↔ IsTrue (is_null (value_of a.entry) || is_null (value_of b.entry)) }
+    ensures null { IsNone result ↔ IsTrue (is_null (value_of a.entry)
+        || is_null (value_of b.entry)) }
 {
     match (a, b) {
         (Cell::Null, _) | (_, Cell::Null) => None,
@@ -38,7 +40,8 @@ pub fn compare(a: Cell<'_>, b: Cell<'_>) -> Option<Ordering>
 /// A comparison of SQL (ISO/IEC 9075:1992), which is Unknown exactly where one side is NULL.
 pub fn compares(op: CompareOp, a: Cell<'_>, b: Cell<'_>) -> Truth
     ensures truth { result ≡ comparison op (value_of a.entry) (value_of b.entry) }
-    ensures unknown { (result ≡ Truth.Unknown) ↔ IsTrue (is_null (value_of a.entry) || is_null (value_of b.entry)) }
+    ensures unknown { (result ≡ Truth.Unknown) ↔ IsTrue (is_null (value_of a.entry)
+        || is_null (value_of b.entry)) }
 {
     match compare(a, b) {
         None => Truth::Unknown,
@@ -46,7 +49,8 @@ pub fn compares(op: CompareOp, a: Cell<'_>, b: Cell<'_>) -> Truth
     }
 }
 
-/// Whether a value lies between two others, or is one of them, as BETWEEN asks it (ISO/IEC 9075:1992).
+/// Whether a value lies between two others, or is one of them, as BETWEEN asks it (ISO/IEC
+/// 9075:1992).
 pub fn is_between(cell: Cell<'_>, low: Cell<'_>, high: Cell<'_>) -> Truth
     ensures { result ≡ between (value_of cell.entry) (value_of low.entry) (value_of high.entry) }
 {
@@ -75,7 +79,8 @@ pub fn not_distinct(a: Cell<'_>, b: Cell<'_>) -> bool
     }
 }
 
-/// The order of two values in which NULL is last and two NULLs are equal: numbers by size, texts by their code points.
+/// The order of two values in which NULL is last and two NULLs are equal: numbers by size, texts by
+/// their code points.
 pub fn order_nulls_last(a: Cell<'_>, b: Cell<'_>) -> Ordering
     ensures { result ≡ nulls_last (value_of a.entry) (value_of b.entry) }
 {

@@ -6,7 +6,8 @@ use crate::text::Text;
 use itoa::Buffer;
 use std::alloc::Global;
 
-/// The decimal digits of the number without leading zeros, after a minus sign where it is negative; or want of memory.
+/// The decimal digits of the number without leading zeros, after a minus sign where it is negative;
+/// or want of memory.
 pub fn number_text(alloc: Global, n: i128) -> Result<Text, Memory>
     ensures { IfOk result (λ text. text ≡ signed_decimal n) }
 {

@@ -55,7 +55,8 @@ impl<T> List<T> {
 }
 
 impl<T: Drop> List<T> {
-    /// Adds the item at the end. After want of memory the list is as it was, and the item is dropped.
+    /// Adds the item at the end. After want of memory the list is as it was, and the item is
+    /// dropped.
     pub fn push(&mut self, item: T) -> Result<(), Memory>
         ensures ok { OnOk result (self.new ≡ self.old ++ item ∷ []) }
         ensures err { OnErr result (self.new ≡ self.old) }

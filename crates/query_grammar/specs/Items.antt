@@ -1,4 +1,5 @@
--- The parts of a statement in which nothing nests: this project's own profile of SQL-92 (ISO/IEC 9075:1992).
+-- The parts of a statement in which nothing nests: this project's own profile of SQL-92 (ISO/IEC
+-- 9075:1992).
 use Rattle.std.specs.Prelude.{List, Option}
 use Rattle.grammar_forms.specs.Form.{option}
 use Rattle.prefsql_lexer.specs.declared.token.Keyword.TheVariants as word
@@ -10,7 +11,8 @@ use Rattle.query_tree.specs.declared.query.ItemTree.{ItemTree}
 use Rattle.query_tree.specs.declared.query.SelectTree.{SelectTree}
 use Rattle.query_tree.specs.declared.query.SelectTree.TheVariants as select_tree
 use Rattle.query_grammar.specs.Rules.{Grammar}
-use Rattle.token_forms.specs.Forms.{◌⨟◌, ◌⨟>◌, ◌<$>◌, ◌∣◌, Named, symbol_only, word_only, separated, comma, or_none, text_of}
+use Rattle.token_forms.specs.Forms.{◌⨟◌, ◌⨟>◌, ◌<$>◌, ◌∣◌, Named, symbol_only, word_only, separated}
+use Rattle.token_forms.specs.Forms.{comma, or_none, text_of}
 use Rattle.token_forms.specs.Columns.{column, columns}
 use Rattle.token_forms.specs.Phrases.{alias}
 use Rattle.query_grammar.specs.Scalars.{level, distance}

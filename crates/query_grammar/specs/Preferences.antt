@@ -1,5 +1,5 @@
--- Preferences, production by production. What they mean follows Kießling (2002) and Kießling and Köstler (2002); the spelling
--- is this project's own.
+-- Preferences, production by production. What they mean follows Kießling (2002) and Kießling and
+-- Köstler (2002); the spelling is this project's own.
 use Rattle.std.specs.Prelude.{ℕ, Bool, true, List, [], Option, Some, None}
 use Rattle.grammar_forms.specs.Form.{option, rule}
 use Rattle.prefsql_lexer.specs.declared.token.Keyword.TheVariants as word
@@ -14,7 +14,8 @@ use Rattle.query_tree.specs.declared.preference.BaseTree.{BaseTree}
 use Rattle.query_tree.specs.declared.preference.PrefTree.{PrefTree}
 use Rattle.query_tree.specs.declared.preference.PrefTree.TheVariants as pref_tree
 use Rattle.query_grammar.specs.Rules.{Grammar, preference_rule}
-use Rattle.token_forms.specs.Forms.{◌⨟◌, ◌⨟>◌, ◌<⨟◌, ◌<$>◌, ◌∣◌, symbol_only, word_at, word_only, separated, comma, in_parens, or_none, chain}
+use Rattle.token_forms.specs.Forms.{◌⨟◌, ◌⨟>◌, ◌<⨟◌, ◌<$>◌, ◌∣◌, symbol_only, word_at, word_only}
+use Rattle.token_forms.specs.Forms.{separated, comma, in_parens, or_none, chain}
 use Rattle.token_forms.specs.Columns.{column, literal}
 use Rattle.query_grammar.specs.Sets.{single, set, sets, edges, mark}
 
@@ -24,7 +25,8 @@ good = column ⨟ (single <$> symbol_only symbol.Equal ⨟> literal) ∣ column 
 
 -- bad := column "<>" literal | column NOT IN set
 unfoldable pub bad : Grammar (NameTree × SetTree)
-bad = column ⨟ (single <$> symbol_only symbol.NotEqual ⨟> literal) ∣ column ⨟ word_only word.Not ⨟> word_only word.In ⨟> set
+bad = column ⨟ (single <$> symbol_only symbol.NotEqual ⨟> literal)
+    ∣ column ⨟ word_only word.Not ⨟> word_only word.In ⨟> set
 
 -- Where OTHERS is written, the sets after it are those of the second list.
 abbrev pub layers_tree : List SetTree × Option (List SetTree) → BaseForm
@@ -33,7 +35,8 @@ layers_tree p = base_form.Layered p.0 (or_none p.1)
 -- layers := sets ["," OTHERS ["," sets]] | OTHERS "," sets
 unfoldable pub layers : Grammar BaseForm
 layers =
-    layers_tree <$> sets ⨟ option (comma ⨟> (or_none <$> word_only word.Others ⨟> option (comma ⨟> sets)))
+    layers_tree <$> sets
+    ⨟ option (comma ⨟> (or_none <$> word_only word.Others ⨟> option (comma ⨟> sets)))
     ∣ (λ after. base_form.Layered [] after) <$> word_only word.Others ⨟> comma ⨟> sets
 
 -- a base preference, but for whether it is trivial
@@ -42,7 +45,12 @@ Unmarked = Bool → BaseTree
 
 -- Its place is that of its column, which is written first.
 abbrev pub on_column : NameTree → BaseForm → Unmarked
-on_column column form trivial = record { column = column; form = form; trivial = trivial; at = column.at }
+on_column column form trivial = record {
+  column = column;
+  form = form;
+  trivial = trivial;
+  at = column.at;
+}
 
 -- Its place is that of the word.
 abbrev pub extremum : BaseForm → ℕ × NameTree → Unmarked
@@ -71,11 +79,13 @@ between_tree p = on_column p.0 (base_form.Between p.1.0 p.1.1)
 abbrev pub layered_tree : NameTree × BaseForm → Unmarked
 layered_tree p = on_column p.0 p.1
 
--- other := good [ELSE good | ELSE bad] | bad | column AROUND literal | column BETWEEN literal AND literal
+-- other := good [ELSE good | ELSE bad] | bad | column AROUND literal
+--        | column BETWEEN literal AND literal
 --        | column LAYERED "(" layers ")" | LOWEST "(" column ")" | HIGHEST "(" column ")"
 unfoldable pub other : Grammar Unmarked
 other =
-    good_tree <$> good ⨟ option (else_good <$> word_only word.Else ⨟> good ∣ else_bad <$> word_only word.Else ⨟> bad)
+    good_tree <$> good ⨟ option (else_good <$> word_only word.Else ⨟> good
+    ∣ else_bad <$> word_only word.Else ⨟> bad)
     ∣ bad_tree <$> bad
     ∣ around_tree <$> column ⨟ word_only word.Around ⨟> literal
     ∣ between_tree <$> column ⨟ word_only word.Between ⨟> literal ⨟ word_only word.And ⨟> literal

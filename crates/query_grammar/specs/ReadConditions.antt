@@ -1,4 +1,5 @@
--- Conditions as they are read: what two sides of a choice have in common stands once, before the choice.
+-- Conditions as they are read: what two sides of a choice have in common stands once, before the
+-- choice.
 use Rattle.std.specs.Prelude.{Bool, true, false, List}
 use Rattle.grammar_forms.specs.Form.{rule}
 use Rattle.prefsql_lexer.specs.declared.token.Keyword.TheVariants as word
@@ -7,7 +8,8 @@ use Rattle.query_tree.specs.declared.condition.CondTree.TheVariants as cond_tree
 use Rattle.query_grammar.specs.Rules.{Grammar, condition_rule}
 use Rattle.token_forms.specs.Forms.{◌⨟◌, ◌⨟>◌, ◌<$>◌, ◌∣◌, word_only, separated, in_parens, chain}
 use Rattle.token_forms.specs.Columns.{column}
-use Rattle.query_grammar.specs.Scalars.{Rest, scalar, comparison, between, member, null_test, negated_rest, test_tree, negated_tree}
+use Rattle.query_grammar.specs.Scalars.{Rest, scalar, comparison, between, member, null_test}
+use Rattle.query_grammar.specs.Scalars.{negated_rest, test_tree, negated_tree}
 use Rattle.token_forms.specs.Phrases.{negation}
 
 -- [NOT] ( BETWEEN .. | IN .. )

@@ -1,4 +1,5 @@
--- Preferences as they are read: what two sides of a choice have in common stands once, before the choice.
+-- Preferences as they are read: what two sides of a choice have in common stands once, before the
+-- choice.
 use Rattle.std.specs.Prelude.{ℕ, Bool, true, List, [], ◌∷◌, Option, Some, None}
 use Rattle.grammar_forms.specs.Form.{option, rows, rule}
 use Rattle.prefsql_lexer.specs.declared.token.Keyword.TheVariants as word
@@ -14,7 +15,8 @@ use Rattle.query_tree.specs.declared.preference.PrefTree.{PrefTree}
 use Rattle.query_tree.specs.declared.preference.PrefTree.TheVariants as pref_tree
 use Rattle.token_forms.specs.Classes.{symbol_class}
 use Rattle.query_grammar.specs.Rules.{Grammar, preference_rule}
-use Rattle.token_forms.specs.Forms.{◌⨟◌, ◌⨟>◌, ◌<⨟◌, ◌<$>◌, ◌∣◌, symbol_only, word_at, word_only, separated, comma, in_parens, or_none, chain}
+use Rattle.token_forms.specs.Forms.{◌⨟◌, ◌⨟>◌, ◌<⨟◌, ◌<$>◌, ◌∣◌, symbol_only, word_at, word_only}
+use Rattle.token_forms.specs.Forms.{separated, comma, in_parens, or_none, chain}
 use Rattle.token_forms.specs.Columns.{column, literal}
 use Rattle.query_grammar.specs.Sets.{single, set, sets, edges, mark}
 
@@ -24,7 +26,8 @@ good_set = single <$> symbol_only symbol.Equal ⨟> literal ∣ word_only word.I
 
 -- "<>" literal | NOT IN set
 unfoldable pub bad_set : Grammar SetTree
-bad_set = single <$> symbol_only symbol.NotEqual ⨟> literal ∣ word_only word.Not ⨟> word_only word.In ⨟> set
+bad_set = single <$> symbol_only symbol.NotEqual ⨟> literal
+    ∣ word_only word.Not ⨟> word_only word.In ⨟> set
 
 -- what the values after ELSE are, and the set before it
 abbrev pub Second : Type 0
@@ -41,7 +44,8 @@ second_form p = p.1 p.0
 
 -- ELSE column ( "=" literal | IN set | "<>" literal | NOT IN set )
 unfoldable pub otherwise : Grammar (SetTree → BaseForm)
-otherwise = second_form <$> word_only word.Else ⨟> column ⨟ (second_good <$> good_set ∣ second_bad <$> bad_set)
+otherwise = second_form <$> word_only word.Else ⨟> column ⨟ (second_good <$> good_set
+    ∣ second_bad <$> bad_set)
 
 abbrev pub good_form : SetTree × Option (SetTree → BaseForm) → BaseForm
 good_form (s, None) = base_form.Pos s
@@ -65,7 +69,8 @@ others = or_none <$> word_only word.Others ⨟> option (comma ⨟> sets)
 unfoldable pub more_layers : Grammar (List SetTree × Option (List SetTree))
 more_layers = rows (symbol_class symbol.Comma) set others
 
-abbrev pub with_first : SetTree × (List SetTree × Option (List SetTree)) → List SetTree × Option (List SetTree)
+abbrev pub with_first : SetTree × (List SetTree × Option (List SetTree)) → List SetTree
+    × Option (List SetTree)
 with_first p = (p.0 ∷ p.1.0, p.1.1)
 
 -- sets ["," OTHERS ["," sets]]
@@ -80,17 +85,24 @@ layers_from_others sets = base_form.Layered [] sets
 
 -- OTHERS "," sets | sets ["," OTHERS ["," sets]]
 unfoldable pub layers_form : Grammar BaseForm
-layers_form = layers_from_others <$> word_only word.Others ⨟> comma ⨟> sets ∣ layers_from_sets <$> sets_and_others
+layers_form = layers_from_others <$> word_only word.Others ⨟> comma ⨟> sets
+    ∣ layers_from_sets <$> sets_and_others
 
 -- what stands after the column of a base preference that is no graph
 unfoldable pub other_form : Grammar BaseForm
-other_form = good_base ∣ base_form.Neg <$> bad_set ∣ base_form.Around <$> word_only word.Around ⨟> literal ∣ between_base ∣ word_only word.Layered ⨟> in_parens layers_form
+other_form = good_base ∣ base_form.Neg <$> bad_set ∣ base_form.Around <$> word_only word.Around
+    ⨟> literal ∣ between_base ∣ word_only word.Layered ⨟> in_parens layers_form
 
 abbrev pub other_tree : BaseForm × Bool → NameTree → BaseTree
 other_tree p column = record { column = column; form = p.0; trivial = p.1; at = column.at }
 
 abbrev pub graph_tree : List EdgeTree → NameTree → BaseTree
-graph_tree edges column = record { column = column; form = base_form.Explicit edges; trivial = true; at = column.at }
+graph_tree edges column = record {
+  column = column;
+  form = base_form.Explicit edges;
+  trivial = true;
+  at = column.at;
+}
 
 -- EXPLICIT "(" edge { "," edge } ")" [TRIVIAL]
 unfoldable pub graph_form : Grammar (List EdgeTree)

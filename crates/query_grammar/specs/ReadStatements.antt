@@ -24,4 +24,5 @@ unfoldable pub prefer_form : Grammar Preferred
 prefer_form = word_only word.Preferring ⨟> preference ⨟ groups ⨟ only
 
 unfoldable pub statement_form : Grammar QueryTree
-statement_form = query_tree <$> word_only word.Select ⨟> distinctness ⨟ list ⨟ (word_only word.From ⨟> from_items) ⨟ filter ⨟ option prefer_form ⨟ ordering
+statement_form = query_tree <$> word_only word.Select ⨟> distinctness ⨟ list
+    ⨟ (word_only word.From ⨟> from_items) ⨟ filter ⨟ option prefer_form ⨟ ordering

@@ -1,5 +1,6 @@
--- What a condition compares, and the tests on it, each without NOT: this project's own profile of SQL-92 (ISO/IEC 9075:1992),
--- with the qualities LEVEL and DISTANCE of Preference SQL (Kießling and Köstler 2002).
+-- What a condition compares, and the tests on it, each without NOT: this project's own profile of
+-- SQL-92 (ISO/IEC 9075:1992), with the qualities LEVEL and DISTANCE of Preference SQL (Kießling and
+-- Köstler 2002).
 use Rattle.std.specs.Prelude.{Bool, true, false, List}
 use Rattle.prefsql_lexer.specs.declared.token.Keyword.TheVariants as word
 use Rattle.prefsql_values.specs.declared.value.CompareOp.{CompareOp}
@@ -8,7 +9,8 @@ use Rattle.query_tree.specs.declared.condition.ScalarTree.TheVariants as scalar_
 use Rattle.query_tree.specs.declared.condition.CondTree.{CondTree}
 use Rattle.query_tree.specs.declared.condition.CondTree.TheVariants as cond_tree
 use Rattle.query_grammar.specs.Rules.{Grammar}
-use Rattle.token_forms.specs.Forms.{◌⨟◌, ◌⨟>◌, ◌<⨟◌, ◌<$>◌, ◌∣◌, word_at, word_only, separated, comma, in_parens}
+use Rattle.token_forms.specs.Forms.{◌⨟◌, ◌⨟>◌, ◌<⨟◌, ◌<$>◌, ◌∣◌, word_at, word_only, separated}
+use Rattle.token_forms.specs.Forms.{comma, in_parens}
 use Rattle.token_forms.specs.Columns.{column, literal, op}
 use Rattle.token_forms.specs.Phrases.{negation}
 

@@ -1,5 +1,5 @@
--- What base preferences are made of: sets of literals, pairs of a graph, and the words after a base preference, as in
--- Preference SQL (Kießling and Köstler 2002); the spelling is this project's own.
+-- What base preferences are made of: sets of literals, pairs of a graph, and the words after a base
+-- preference, as in Preference SQL (Kießling and Köstler 2002); the spelling is this project's own.
 use Rattle.std.specs.Prelude.{Bool, true, false, List, [], ◌∷◌}
 use Rattle.grammar_forms.specs.Form.{option}
 use Rattle.prefsql_lexer.specs.declared.token.Keyword.TheVariants as word
@@ -8,7 +8,8 @@ use Rattle.query_tree.specs.declared.name.LiteralTree.{LiteralTree}
 use Rattle.query_tree.specs.declared.preference.SetTree.{SetTree}
 use Rattle.query_tree.specs.declared.preference.EdgeTree.{EdgeTree}
 use Rattle.query_grammar.specs.Rules.{Grammar}
-use Rattle.token_forms.specs.Forms.{◌⨟◌, ◌⨟>◌, ◌<$>◌, ◌∣◌, symbol_only, word_only, separated, comma, in_parens}
+use Rattle.token_forms.specs.Forms.{◌⨟◌, ◌⨟>◌, ◌<$>◌, ◌∣◌, symbol_only, word_only, separated, comma}
+use Rattle.token_forms.specs.Forms.{in_parens}
 use Rattle.token_forms.specs.Columns.{literal, literals, if_written}
 
 abbrev pub set_tree : List LiteralTree → SetTree
@@ -39,4 +40,5 @@ edges = separated comma edge
 
 -- [TRIVIAL | REGULAR], whether it is TRIVIAL
 unfoldable pub mark : Grammar Bool
-mark = if_written <$> option ((λ _. true) <$> word_only word.Trivial ∣ (λ _. false) <$> word_only word.Regular)
+mark = if_written <$> option ((λ _. true) <$> word_only word.Trivial
+    ∣ (λ _. false) <$> word_only word.Regular)

@@ -12,6 +12,26 @@ use Rattle.query_tree.specs.declared.query.QueryTree.{QueryTree}
 abbrev pub Preferred : Type 0
 Preferred = PrefTree × (List NameTree × Option CondTree)
 
-abbrev pub query_tree : Bool × (SelectTree × (List FromTree × (Option CondTree × (Option Preferred × List OrderTree)))) → QueryTree
-query_tree (d, (s, (f, (w, (None, o))))) = record { distinct = d; select = s; from = f; filter = w; prefer = None; groups = []; only = None; order = o }
-query_tree (d, (s, (f, (w, (Some p, o))))) = record { distinct = d; select = s; from = f; filter = w; prefer = Some p.0; groups = p.1.0; only = p.1.1; order = o }
+abbrev pub query_tree : Bool
+    × (SelectTree × (List FromTree × (Option CondTree × (Option Preferred × List OrderTree))))
+    → QueryTree
+query_tree (d, (s, (f, (w, (None, o))))) = record {
+  distinct = d;
+  select = s;
+  from = f;
+  filter = w;
+  prefer = None;
+  groups = [];
+  only = None;
+  order = o;
+}
+query_tree (d, (s, (f, (w, (Some p, o))))) = record {
+  distinct = d;
+  select = s;
+  from = f;
+  filter = w;
+  prefer = Some p.0;
+  groups = p.1.0;
+  only = p.1.1;
+  order = o;
+}

@@ -1,5 +1,6 @@
--- What a query answers: its candidates, the best of them, those that are kept, and what they show (ISO/IEC 9075:1992, query
--- specification; Kießling and Köstler 2002, PREFERRING, GROUPING and BUT ONLY).
+-- What a query answers: its candidates, the best of them, those that are kept, and what they show
+-- (ISO/IEC 9075:1992, query specification; Kießling and Köstler 2002, PREFERRING, GROUPING and BUT
+-- ONLY).
 use Rattle.std.specs.Prelude.{ℕ, Bool, Option, Some, None, List, length, map, filter}
 use Rattle.std.specs.List.{list_all}
 use Rattle.std.specs.Ordering.{on}
@@ -43,7 +44,8 @@ combinations tables from = map (λ rows. record { rows = rows }) (combos_of (row
 
 -- the combinations for which WHERE is True
 abbrev pub candidates : Tables → Block → List Combo
-candidates tables block = filter (λ combo. passes block.filter (seen tables block combo)) (combinations tables block.from)
+candidates tables block =
+    filter (λ combo. passes block.filter (seen tables block combo)) (combinations tables block.from)
 
 -- those that none of them betters within its group; all of them without a preference
 abbrev pub best_by : Option Term → List ColumnPlace → (Combo → Sight) → List Combo → List Combo
@@ -51,21 +53,25 @@ best_by None groups see combos = combos
 best_by (Some term) groups see combos = best (on see ((grouped_order groups term).better)) combos
 
 abbrev pub best_rows : Tables → Block → List Combo
-best_rows tables block = best_by block.term block.groups (seen tables block) (candidates tables block)
+best_rows tables block =
+    best_by block.term block.groups (seen tables block) (candidates tables block)
 
 -- the best ones for which BUT ONLY is True
 abbrev pub kept_rows : Tables → Block → List Combo
-kept_rows tables block = filter (λ combo. passes block.only (seen tables block combo)) (best_rows tables block)
+kept_rows tables block =
+    filter (λ combo. passes block.only (seen tables block combo)) (best_rows tables block)
 
 -- the output values of a combination
 abbrev pub output_row : Block → Sight → AnswerRow
-output_row block sight = record { cells = map (λ (output : Output). scalar_value sight output.scalar) block.output }
+output_row block sight =
+    record { cells = map (λ (output : Output). scalar_value sight output.scalar) block.output }
 
 -- the answer that shows these combinations: the output names, and their output values, arranged
 abbrev pub answer_of_rows : Tables → Block → List Combo → Answer
 answer_of_rows tables block combos = record {
   names = map (λ (output : Output). output.name) block.output;
-  rows = arranged block.distinct block.order (map (λ combo. output_row block (seen tables block combo)) combos);
+  rows = arranged block.distinct block.order (map
+      (λ combo. output_row block (seen tables block combo)) combos);
 }
 
 -- the answer of a block shows its kept rows

@@ -1,5 +1,7 @@
--- Which blocks have an answer over which tables: a matter of columns and places, and not of what cells hold.
-use Rattle.std.specs.Prelude.{ℕ, ◌<◌, ◌||◌, IsTrue, List, [], length, map, All, IfSome, ⊤, slice_index_or}
+-- Which blocks have an answer over which tables: a matter of columns and places, and not of what
+-- cells hold.
+use Rattle.std.specs.Prelude.{ℕ, ◌<◌, ◌||◌, IsTrue, List, [], length, map, All, IfSome, ⊤}
+use Rattle.std.specs.Prelude.{slice_index_or}
 use Rattle.std.specs.List.{HoldsAt, flat_map}
 use Rattle.prefsql_tables.specs.declared.place.ColumnPlace.{ColumnPlace}
 use Rattle.prefsql_tables.specs.declared.schema.Column.{Column}
@@ -38,7 +40,8 @@ pub record IsPlace (from : List FromTable) (place : ColumnPlace) : Type 0 where
 -- the place is of a column that the base preference can rank
 pub record IsRankedPlace (from : List FromTable) (place : ColumnPlace) (kind : Kind) : Type 0 where
   pub there : IsPlace from place
-  pub rankable : HoldsAt (λ (column : Column). IsRankable kind column.domain column.nullable) (columns_from from place.table) place.column
+  pub rankable : HoldsAt (λ (column : Column). IsRankable kind column.domain column.nullable)
+      (columns_from from place.table) place.column
 
 -- the same, and the base preference has a level or a distance
 pub record IsQuality (from : List FromTable) (quality : Quality) : Type 0 where

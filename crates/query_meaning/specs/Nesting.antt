@@ -2,7 +2,8 @@
 -- (ISO/IEC 9075:1992). That a quality is written as a column and TOP as a comparison is this
 -- project's own.
 use Rattle.std.specs.Prelude.{ℕ, map}
-use Rattle.prefsql_values.specs.Nesting.{Standing, alone, in_and, in_or, after_not, wraps_and, wraps_or, wraps_not, in_parentheses, deepest}
+use Rattle.prefsql_values.specs.Nesting.{Standing, alone, in_and, in_or, after_not, wraps_and}
+use Rattle.prefsql_values.specs.Nesting.{wraps_or, wraps_not, in_parentheses, deepest}
 use Rattle.conditions.specs.declared.condition.Cond.{Cond, fold-Cond}
 use Rattle.conditions.specs.declared.condition.Cond.TheOpen.{Cond-F}
 

@@ -1,5 +1,7 @@
 -- What every query whose names are resolved keeps. The rules and limits are this project's own.
-use Rattle.std.specs.Prelude.{ℕ, ◌+◌, ◌<◌, ◌≤◌, ◌^◌, ◌≡◌, ◌≢◌, false, Option, Some, None, List, [], ◌∷◌, ◌++◌, map, length, All, AllPairs, Any, Contains, IfNone, ⊤, slice_index_or}
+use Rattle.std.specs.Prelude.{ℕ, ◌+◌, ◌<◌, ◌≤◌, ◌^◌, ◌≡◌, ◌≢◌, false, Option, Some, None, List, []}
+use Rattle.std.specs.Prelude.{◌∷◌, ◌++◌, map, length, All, AllPairs, Any, Contains, IfNone, ⊤}
+use Rattle.std.specs.Prelude.{slice_index_or}
 use Rattle.std.specs.List.{flat_map, range_with_len}
 use Rattle.prefsql_values.specs.Limits.{IsName, IsLiteralValue}
 use Rattle.prefsql_values.specs.declared.value.Domain.{Domain}
@@ -20,7 +22,9 @@ use Rattle.pref_terms.specs.Parts.{leaves_left}
 use Rattle.conditions.specs.declared.condition.Quality.{Quality}
 use Rattle.conditions.specs.declared.condition.Scalar.{Scalar}
 use Rattle.conditions.specs.declared.condition.Scalar.TheVariants as scalar
-use Rattle.conditions.specs.declared.condition.Cond.{Cond, And', Or', Not', Compare, Between, OneOf, IsNull, Top, Row_of-Cond, end_of-Cond, more_of-Cond}
+use Rattle.conditions.specs.declared.condition.Cond.{Cond, And', Or', Not', Compare, Between, OneOf}
+use Rattle.conditions.specs.declared.condition.Cond.{IsNull, Top, Row_of-Cond, end_of-Cond}
+use Rattle.conditions.specs.declared.condition.Cond.{more_of-Cond}
 use Rattle.conditions.specs.Meaning.{scalars_of}
 use Rattle.query_meaning.specs.BlockFits.{HasPlaces, columns_from}
 use Rattle.query_meaning.specs.Conjuncts.{conjuncts, joined}

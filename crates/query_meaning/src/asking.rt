@@ -47,7 +47,8 @@ impl Asked<'_> {
     /// The candidates.
     pub(crate) fn candidates(&self, alloc: Global) -> Result<Vec<Combo>, Memory>
         requires { IsAsked self.now }
-        ensures { IfOk result (λ combos. combos.items ≡ candidates self.now.tables.now self.now.block.now) }
+        ensures { IfOk result
+            (λ combos. combos.items ≡ candidates self.now.tables.now self.now.block.now) }
     {
         let mut limits = Vec::new(alloc);
         for table in self.block.from.as_slice() {
@@ -68,9 +69,11 @@ impl Asked<'_> {
         found: &mut Vec<Combo>,
     ) -> Result<(), Memory>
         requires asked { IsAsked self.now }
-        requires completed { IsCompleted (row_counts self.now.tables.now self.now.block.now.from) rows.old.items limits.now }
+        requires completed { IsCompleted (row_counts self.now.tables.now self.now.block.now.from)
+            rows.old.items limits.now }
         ensures rows { OnOk result (rows.new.items ≡ rows.old.items) }
-        ensures found { OnOk result (found.new.items ≡ found.old.items ++ filter (is_candidate self.now) (begun rows.old.items (combos_of limits.now))) }
+        ensures found { OnOk result (found.new.items ≡ found.old.items
+            ++ filter (is_candidate self.now) (begun rows.old.items (combos_of limits.now))) }
     {
         match limits.split_first() {
             None => self.add_candidate(alloc, rows, found),
@@ -85,7 +88,8 @@ impl Asked<'_> {
         }
     }
 
-    /// Adds the combination of these rows where it is a candidate. Memory is taken for a candidate alone.
+    /// Adds the combination of these rows where it is a candidate. Memory is taken for a candidate
+    /// alone.
     fn add_candidate(
         &self,
         alloc: Global,
@@ -93,9 +97,11 @@ impl Asked<'_> {
         found: &mut Vec<Combo>,
     ) -> Result<(), Memory>
         requires asked { IsAsked self.now }
-        requires chosen { IsChoice (row_counts self.now.tables.now self.now.block.now.from) rows.old.items }
+        requires chosen { IsChoice (row_counts self.now.tables.now self.now.block.now.from)
+            rows.old.items }
         ensures rows { OnOk result (rows.new.items ≡ rows.old.items) }
-        ensures found { OnOk result (found.new.items ≡ found.old.items ++ filter (is_candidate self.now) (record { rows = rows.old.items } ∷ [])) }
+        ensures found { OnOk result (found.new.items ≡ found.old.items
+            ++ filter (is_candidate self.now) (record { rows = rows.old.items } ∷ [])) }
     {
         let combo = Combo {
             rows: List::of(mem::replace(rows, Vec::new(alloc))),
@@ -149,11 +155,13 @@ impl Asked<'_> {
         Ok(kept)
     }
 
-    /// The answer that shows these combinations of a row of each FROM table: their output values, arranged.
+    /// The answer that shows these combinations of a row of each FROM table: their output values,
+    /// arranged.
     pub fn answer(&self, alloc: Global, combos: &[Combo]) -> Result<Answer, Memory>
         requires asked { IsAsked self.now }
         requires chosen { All (IsRowChoice self.now) combos.now }
-        ensures { IfOk result (λ answer. answer ≡ answer_of_rows self.now.tables.now self.now.block.now combos.now) }
+        ensures { IfOk result
+            (λ answer. answer ≡ answer_of_rows self.now.tables.now self.now.block.now combos.now) }
     {
         let rows = self.answer_rows(alloc, combos)?;
         let names = names(alloc, self.block.output.as_slice())?;
@@ -165,7 +173,9 @@ impl Asked<'_> {
     fn answer_rows(&self, alloc: Global, combos: &[Combo]) -> Result<List<AnswerRow>, Memory>
         requires asked { IsAsked self.now }
         requires chosen { All (IsRowChoice self.now) combos.now }
-        ensures { IfOk result (λ rows. rows ≡ map (λ combo. output_row self.now.block.now (shows self.now combo)) combos.now) }
+        ensures { IfOk result
+            (λ rows. rows ≡ map
+            (λ combo. output_row self.now.block.now (shows self.now combo)) combos.now) }
     {
         let mut rows = List::new(alloc);
         for combo in combos {
@@ -178,7 +188,8 @@ impl Asked<'_> {
     pub fn answer_row(&self, alloc: Global, combo: &Combo) -> Result<AnswerRow, Memory>
         requires asked { IsAsked self.now }
         requires chosen { IsRowChoice self.now combo.now }
-        ensures { IfOk result (λ row. row ≡ output_row self.now.block.now (shows self.now combo.now)) }
+        ensures { IfOk result
+            (λ row. row ≡ output_row self.now.block.now (shows self.now combo.now)) }
     {
         let mut cells = List::new(alloc);
         for output in self.block.output.as_slice() {

@@ -20,8 +20,9 @@ pub struct Output {
     pub scalar: Scalar,
 }
 
-/// A query whose names are resolved. It asks for the candidates, which pass the filter, that no candidate of their group is
-/// better than by the term (Kießling and Köstler 2002), and of these for the ones that pass `only`.
+/// A query whose names are resolved. It asks for the candidates, which pass the filter, that no
+/// candidate of their group is better than by the term (Kießling and Köstler 2002), and of these
+/// for the ones that pass `only`.
 #[derive(Debug, Drop)]
 pub struct Block {
     pub distinct: bool,

@@ -11,8 +11,8 @@ use std::alloc::Global;
 use std::marker::Brand;
 use std::sync::ledger::{Blank, Ledger};
 
-/// The answer of a block by its definition: it goes through the combinations of rows one by one. The only error is want of
-/// memory.
+/// The answer of a block by its definition: it goes through the combinations of rows one by one.
+/// The only error is want of memory.
 pub fn plain_answer(alloc: Global, block: &Block, tables: &TableSet) -> Result<Answer, Memory>
     requires places { HasPlaces block.now }
     requires fits { FitsTables tables.now block.now }
@@ -56,7 +56,8 @@ pub fn indexes_of(alloc: Global, from: &[FromTable]) -> Result<Vec<u32>, Memory>
     Ok(indexes)
 }
 
-/// The law that the best rows of a block are the candidates that no candidate of their group is better than.
+/// The law that the best rows of a block are the candidates that no candidate of their group is
+/// better than.
 pub fn has_best_rows()
     ensures { HasBestRows }
 {}

@@ -1,5 +1,5 @@
-//! A parser of preference scripts: from tokens to trees, exact against the grammar, with the exact place of the first grammar
-//! fault.
+//! A parser of preference scripts: from tokens to trees, exact against the grammar, with the exact
+//! place of the first grammar fault.
 #![tactic(auto)]
 
 mod fault;

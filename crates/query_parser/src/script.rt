@@ -24,7 +24,8 @@ const UNEXPECTED_END: u16 = 202;
 
 const TOO_MANY_STATEMENTS: u16 = 203;
 
-/// The trees of a script, one for each statement, or its first grammar fault. `end` is the length of the script in bytes.
+/// The trees of a script, one for each statement, or its first grammar fault. `end` is the length
+/// of the script in bytes.
 pub fn parse_script(
     alloc: Global,
     tokens: &[Token],

@@ -5,7 +5,8 @@ use prefsql_lexer::tokens;
 use std::alloc::Global;
 use std::test::Fail;
 
-/// The last statement of a script, as it is printed, and the number of them, or the first grammar fault.
+/// The last statement of a script, as it is printed, and the number of them, or the first grammar
+/// fault.
 fn shown(alloc: Global, script: &str) -> Result<String, Fail>
     requires { length script.now ≤ 268435456 }
 {
@@ -26,8 +27,8 @@ fn shown(alloc: Global, script: &str) -> Result<String, Fail>
     Ok(text?)
 }
 
-// Codes and places are counted by hand, and so are the places in a tree, whose shape is written by hand. Each production
-// stands once.
+// Codes and places are counted by hand, and so are the places in a tree, whose shape is written by
+// hand. Each production stands once.
 #[test]
 fn trees_and_first_faults(rt: HostRuntime) -> Result<(), Fail> {
     for (script, want) in [
@@ -87,7 +88,8 @@ fn trees_and_first_faults(rt: HostRuntime) -> Result<(), Fail> {
     Ok(())
 }
 
-// A script of 64 statements has 64 trees. In one of 65 the last SELECT is too many, at byte 64 times 20.
+// A script of 64 statements has 64 trees. In one of 65 the last SELECT is too many, at byte 64
+// times 20.
 #[test]
 fn at_most_64_statements(rt: HostRuntime) -> Result<(), Fail> {
     let mut script = String::new(rt.alloc());

@@ -1,5 +1,6 @@
-//! Reads the statements of preference scripts from tokens, each production exactly: a function answers what its production stands
-//! for, or leaves the cursor at the first token that fits nowhere. The parser of scripts stands on it.
+//! Reads the statements of preference scripts from tokens, each production exactly: a function
+//! answers what its production stands for, or leaves the cursor at the first token that fits
+//! nowhere. The parser of scripts stands on it.
 #![tactic(auto)]
 
 mod parser;

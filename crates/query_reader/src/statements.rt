@@ -136,7 +136,8 @@ impl Parser {
 
     #[tactic(auto, unfolding(query_grammar::specs::ReadStatements::prefer_form))]
     fn preferred(self, tokens: &mut Cursor<'_>) -> Result<Option<Preferred>, Stop>
-        ensures { Reads (outcome self.depth (option statements.prefer_form) tokens.old) result tokens.new }
+        ensures { Reads (outcome self.depth (option statements.prefer_form) tokens.old) result
+            tokens.new }
     {
         if tokens.at_word(Keyword::Preferring) {
             return Ok(Some(self.prefer(tokens)?));
@@ -167,7 +168,8 @@ impl Parser {
 
     #[tactic(auto, unfolding(query_grammar::specs::ReadStatements::statement_form, query_grammar::specs::ReadStatements::prefer_form))]
     fn statement(self, tokens: &mut Cursor<'_>) -> Result<QueryTree, Stop>
-        ensures { Reads (outcome self.depth statements.statement_form tokens.old) result tokens.new }
+        ensures { Reads (outcome self.depth statements.statement_form tokens.old) result
+            tokens.new }
     {
         tokens.word(Keyword::Select)?;
         let distinct = self.distinctness(tokens);
@@ -220,7 +222,8 @@ impl Parser {
 
     /// The statements, and whether these are so many that no more may follow.
     pub fn script(self, tokens: &mut Cursor<'_>) -> Result<(List<QueryTree>, bool), Stop>
-        ensures { Reads (outcome self.depth (counted statements.statement_form 64) tokens.old) result tokens.new }
+        ensures { Reads (outcome self.depth (counted statements.statement_form 64) tokens.old)
+            result tokens.new }
     {
         let mut found = List::new(self.alloc);
         'more: for _turn in 0..MAX_STATEMENTS {

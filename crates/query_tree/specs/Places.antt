@@ -1,4 +1,5 @@
--- The places that a tree holds, in the order in which its parts are written in the script. This order is this project's own.
+-- The places that a tree holds, in the order in which its parts are written in the script. This
+-- order is this project's own.
 use Rattle.std.specs.Prelude.{ℕ, List, [], ◌∷◌, ◌++◌, map, Option, Some, None}
 use Rattle.std.specs.List.{concat, flat_map}
 use Rattle.query_tree.specs.declared.condition.ScalarTree.{ScalarTree}
@@ -28,7 +29,8 @@ cond_places_step (CondTree-F.And parts) = concat parts
 cond_places_step (CondTree-F.Or parts) = concat parts
 cond_places_step (CondTree-F.Not part) = part
 cond_places_step (CondTree-F.Compare op a b) = scalar_places a ++ scalar_places b
-cond_places_step (CondTree-F.Between negated a low high) = scalar_places a ++ scalar_places low ++ scalar_places high
+cond_places_step (CondTree-F.Between negated a low high) =
+    scalar_places a ++ scalar_places low ++ scalar_places high
 cond_places_step (CondTree-F.OneOf negated a list) = scalar_places a ++ flat_map scalar_places list
 cond_places_step (CondTree-F.IsNull negated a) = scalar_places a
 cond_places_step (CondTree-F.Top name) = name.at ∷ []
@@ -76,6 +78,8 @@ places_if places (Some part) = places part
 
 unfoldable pub query_places : QueryTree → List ℕ
 query_places query =
-    select_places query.select ++ flat_map (λ table. table.at ∷ table.name_at ∷ []) query.from ++ places_if cond_places query.filter
-    ++ places_if pref_places query.prefer ++ map (λ column. column.at) query.groups ++ places_if cond_places query.only
+    select_places query.select ++ flat_map (λ table. table.at ∷ table.name_at ∷ []) query.from
+    ++ places_if cond_places query.filter
+    ++ places_if pref_places query.prefer ++ map (λ column. column.at) query.groups
+    ++ places_if cond_places query.only
     ++ map (λ item. item.at) query.order

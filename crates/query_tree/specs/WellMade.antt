@@ -1,18 +1,25 @@
--- What is true of each tree that the grammar builds from tokens. These bounds and shapes are this project's own.
-use Rattle.std.specs.Prelude.{◌≡◌, ◌<◌, ◌≤◌, ◌+◌, ◌^◌, ℕ, Bool, true, false, List, [], length, All, ⊤, IfSome, IfNone, IsNone, IsTrue}
+-- What is true of each tree that the grammar builds from tokens. These bounds and shapes are this
+-- project's own.
+use Rattle.std.specs.Prelude.{◌≡◌, ◌<◌, ◌≤◌, ◌+◌, ◌^◌, ℕ, Bool, true, false, List, [], length, All}
+use Rattle.std.specs.Prelude.{⊤, IfSome, IfNone, IsNone, IsTrue}
 use Rattle.std.specs.List.Sorted.{IsNonDecreasing}
 use Rattle.prefsql_values.specs.Limits.{IsName, IsLiteralValue, IsUnsignedShort}
 use Rattle.query_tree.specs.declared.name.NameTree.{NameTree}
 use Rattle.query_tree.specs.declared.name.LiteralTree.{LiteralTree}
 use Rattle.query_tree.specs.declared.condition.ScalarTree.{ScalarTree}
 use Rattle.query_tree.specs.declared.condition.ScalarTree.TheVariants as scalar
-use Rattle.query_tree.specs.declared.condition.CondTree.{CondTree, And', Or', Not', Compare, Between, OneOf, IsNull, Top, Row_of-CondTree, end_of-CondTree, more_of-CondTree}
+use Rattle.query_tree.specs.declared.condition.CondTree.{CondTree, And', Or', Not', Compare}
+use Rattle.query_tree.specs.declared.condition.CondTree.{Between, OneOf, IsNull, Top}
+use Rattle.query_tree.specs.declared.condition.CondTree.{Row_of-CondTree, end_of-CondTree}
+use Rattle.query_tree.specs.declared.condition.CondTree.{more_of-CondTree}
 use Rattle.query_tree.specs.declared.preference.SetTree.{SetTree}
 use Rattle.query_tree.specs.declared.preference.EdgeTree.{EdgeTree}
 use Rattle.query_tree.specs.declared.preference.BaseForm.{BaseForm}
 use Rattle.query_tree.specs.declared.preference.BaseForm.TheVariants as form
 use Rattle.query_tree.specs.declared.preference.BaseTree.{BaseTree}
-use Rattle.query_tree.specs.declared.preference.PrefTree.{PrefTree, Base, Pareto', Prior', Row_of-PrefTree, end_of-PrefTree, more_of-PrefTree}
+use Rattle.query_tree.specs.declared.preference.PrefTree.{PrefTree, Base, Pareto', Prior'}
+use Rattle.query_tree.specs.declared.preference.PrefTree.{Row_of-PrefTree, end_of-PrefTree}
+use Rattle.query_tree.specs.declared.preference.PrefTree.{more_of-PrefTree}
 use Rattle.query_tree.specs.declared.query.ItemTree.{ItemTree}
 use Rattle.query_tree.specs.declared.query.SelectTree.{SelectTree}
 use Rattle.query_tree.specs.declared.query.SelectTree.TheVariants as select
@@ -67,8 +74,10 @@ abbrev mutual
   IsCond qualities (Or' _ parts) = IsChain (cond_count parts) × AreConds qualities parts
   IsCond qualities (Not' _ part) = AreConds qualities part
   IsCond qualities (Compare op a b) = IsScalar qualities a × IsScalar qualities b
-  IsCond qualities (Between negated a low high) = IsScalar qualities a × IsScalar qualities low × IsScalar qualities high
-  IsCond qualities (OneOf negated a list) = IsScalar qualities a × IsFilled (length list) × All (IsScalar qualities) list
+  IsCond qualities (Between negated a low high) = IsScalar qualities a × IsScalar qualities low
+      × IsScalar qualities high
+  IsCond qualities (OneOf negated a list) = IsScalar qualities a × IsFilled (length list)
+      × All (IsScalar qualities) list
   IsCond qualities (IsNull negated a) = IsScalar qualities a
   IsCond qualities (Top name) = IsTrue qualities × IsColumn name
 
@@ -98,7 +107,8 @@ IsForm (form.Pos set) = IsSet set
 IsForm (form.Neg set) = IsSet set
 IsForm (form.PosPos first column second) = IsSet first × IsColumn column × IsSet second
 IsForm (form.PosNeg first column second) = IsSet first × IsColumn column × IsSet second
-IsForm (form.Layered before after) = AreSets before × AreSets after × (0 < length before + length after)
+IsForm (form.Layered before after) = AreSets before × AreSets after
+    × (0 < length before + length after)
 IsForm (form.Explicit edges) = IsFilled (length edges) × All IsEdge edges
 IsForm (form.Around middle) = IsLiteral middle
 IsForm (form.Between low high) = IsLiteral low × IsLiteral high

@@ -1,5 +1,6 @@
-//! Trees of preference scripts, as the grammar builds them. They follow the queries of SQL-92 (ISO/IEC 9075:1992) and the
-//! preferring clause of Preference SQL (Kießling and Köstler 2002). A place is the number of bytes of the script before it.
+//! Trees of preference scripts, as the grammar builds them. They follow the queries of SQL-92
+//! (ISO/IEC 9075:1992) and the preferring clause of Preference SQL (Kießling and Köstler 2002). A
+//! place is the number of bytes of the script before it.
 #![tactic(auto)]
 
 mod condition;

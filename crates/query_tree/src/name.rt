@@ -2,7 +2,8 @@
 
 use prefsql_values::{Text, Value};
 
-/// A column `first` or `first.second`. A regular identifier is in upper case, a delimited one as it is written.
+/// A column `first` or `first.second`. A regular identifier is in upper case, a delimited one as it
+/// is written.
 #[derive(Debug, Drop)]
 pub struct NameTree {
     pub first: Text,

@@ -1,5 +1,6 @@
 -- What stands in the order of its places, as the parts of a tree that is well made do.
-use Rattle.std.specs.Prelude.{ℕ, ◌≤◌, Bool, false, nat_lt, Option, Some, None, List, [], ◌∷◌, All, map, ⊤}
+use Rattle.std.specs.Prelude.{ℕ, ◌≤◌, Bool, false, nat_lt, Option, Some, None, List, [], ◌∷◌, All}
+use Rattle.std.specs.Prelude.{map, ⊤}
 use Rattle.std.specs.List.{flat_map}
 use Rattle.prefsql_lexer.specs.declared.fault.Spot.{Spot}
 use Rattle.query_tree.specs.Places.{base_places}

@@ -1,5 +1,6 @@
 -- Where names stand in a list of names.
-use Rattle.std.specs.Prelude.{◌≡◌, ℕ, true, false, nat_lt, Option, Some, None, List, option_map, position, count_by}
+use Rattle.std.specs.Prelude.{◌≡◌, ℕ, true, false, nat_lt, Option, Some, None, List, option_map}
+use Rattle.std.specs.Prelude.{position, count_by}
 use Rattle.std.specs.HashMap.{HashMap, get_by}
 use Rattle.std.specs.Str.{bytes_eq}
 use denote.Ref.{Bor}

@@ -20,7 +20,8 @@ pub(crate) fn add_name<'t>(
     name: &'t str,
     place: usize,
 ) -> Result<(), Memory>
-    ensures { OnOk result ((names : List (List ℕ)) → IsIndexOf names index.old → place ≡ length names → IsIndexOf (names ++ name.now ∷ []) index.new) }
+    ensures { OnOk result ((names : List (List ℕ)) → IsIndexOf names index.old
+        → place ≡ length names → IsIndexOf (names ++ name.now ∷ []) index.new) }
 {
     let known = find_name(index, name);
     index.insert(name, place_more(known, place))?;

@@ -72,7 +72,8 @@ pub(crate) fn tallies(
 
 /// Counts one leaf more.
 fn add_leaf(tallies: &mut HashMap<(u32, u32), QualityTally>, leaf: &LeafSite) -> Result<(), Memory>
-    ensures { OnOk result ((leaves : List LeafSite) → AreTallied leaves tallies.old → AreTallied (leaves ++ leaf.now ∷ []) tallies.new) }
+    ensures { OnOk result ((leaves : List LeafSite) → AreTallied leaves tallies.old
+        → AreTallied (leaves ++ leaf.now ∷ []) tallies.new) }
 {
     let Some(place) = leaf.place else {
         return Ok(());
@@ -85,7 +86,8 @@ fn add_leaf(tallies: &mut HashMap<(u32, u32), QualityTally>, leaf: &LeafSite) ->
 
 /// Those of a column with one leaf more on it.
 fn with_leaf(known: Option<QualityTally>, leaf: &LeafSite) -> QualityTally
-    ensures { (wanted : Wanted) → tally_of wanted result ≡ tally_with (has_wanted wanted leaf.now) (tally_in wanted known) }
+    ensures { (wanted : Wanted)
+        → tally_of wanted result ≡ tally_with (has_wanted wanted leaf.now) (tally_in wanted known) }
 {
     QualityTally {
         level: told(known, Wanted::Level).with(has_wanted(leaf, Wanted::Level)),

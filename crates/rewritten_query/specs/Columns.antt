@@ -1,6 +1,7 @@
 -- The columns of the auxiliary query: those of the tables that the outer query speaks of, and what
 -- each leaf ranks by (after Kießling and Köstler 2002). Their order is this project's own.
-use Rattle.std.specs.Prelude.{ℕ, ◌+◌, ◌-◌, Bool, ◌&&◌, nat_eq, if◌then◌else◌, List, [], ◌∷◌, ◌++◌, length, map, filter, take}
+use Rattle.std.specs.Prelude.{ℕ, ◌+◌, ◌-◌, Bool, ◌&&◌, nat_eq, if◌then◌else◌, List, [], ◌∷◌, ◌++◌}
+use Rattle.std.specs.Prelude.{length, map, filter, take}
 use Rattle.std.specs.List.{flat_map, list_any, range_with_len}
 use Rattle.prefsql_tables.specs.declared.place.ColumnPlace.{ColumnPlace}
 use Rattle.base_prefs.specs.declared.kind.Kind.{Kind}

@@ -9,7 +9,8 @@ use Rattle.conditions.specs.declared.condition.Cond.TheOpen.{Cond-F}
 use Rattle.conditions.specs.declared.condition.Quality.{Quality}
 use Rattle.conditions.specs.declared.condition.Scalar.{Scalar}
 use Rattle.conditions.specs.declared.condition.Scalar.TheVariants as scalar
-use Rattle.sql_tree.specs.declared.tree.SqlCond.{SqlCond, And, Or, Not, Compare, Between, OneOf, IsNull}
+use Rattle.sql_tree.specs.declared.tree.SqlCond.{SqlCond, And, Or, Not, Compare, Between, OneOf}
+use Rattle.sql_tree.specs.declared.tree.SqlCond.{IsNull}
 use Rattle.sql_tree.specs.declared.tree.SqlScalar.{SqlScalar}
 use Rattle.rewritten_query.specs.Leaves.{literal, number}
 use Rattle.prefsql_tables.specs.declared.place.ColumnPlace.{ColumnPlace}

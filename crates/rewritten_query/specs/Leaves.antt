@@ -1,6 +1,7 @@
 -- What a leaf ranks by, as an SQL scalar over the scalar of its column. The form is this project's
 -- own, after the level columns of Kießling and Köstler (2002).
-use Rattle.std.specs.Prelude.{ℕ, ◌+◌, pos, true, false, nat_eq, Some, None, List, [], ◌∷◌, ◌++◌, length, map, filter}
+use Rattle.std.specs.Prelude.{ℕ, ◌+◌, pos, true, false, nat_eq, Some, None, List, [], ◌∷◌, ◌++◌}
+use Rattle.std.specs.Prelude.{length, map, filter}
 use Rattle.std.specs.List.{range_with_len}
 use Rattle.prefsql_values.specs.declared.value.CompareOp.TheVariants.{Eq, Lt, Gt}
 use Rattle.prefsql_values.specs.declared.value.Value.{Value}
@@ -8,7 +9,9 @@ use Rattle.prefsql_values.specs.declared.value.Value.TheVariants.{Num, Str, Null
 use Rattle.base_prefs.specs.declared.edge.Edge.{Edge}
 use Rattle.base_prefs.specs.declared.edge.ValueSet.{ValueSet}
 use Rattle.base_prefs.specs.declared.kind.Kind.{Kind}
-use Rattle.base_prefs.specs.declared.kind.Kind.TheVariants.{Pos, Neg, PosPos, PosNeg, Layered, Explicit, Around, Between, Lowest, Highest}
+use Rattle.base_prefs.specs.declared.kind.Kind.TheVariants.{Pos, Neg, PosPos, PosNeg, Layered}
+use Rattle.base_prefs.specs.declared.kind.Kind.TheVariants.{Explicit, Around, Between, Lowest}
+use Rattle.base_prefs.specs.declared.kind.Kind.TheVariants.{Highest}
 use Rattle.base_prefs.specs.Graph.{graph_height, graph_level, graph_values, greatest}
 use Rattle.sql_tree.specs.declared.tree.SqlCond.{SqlCond, Compare, OneOf}
 use Rattle.sql_tree.specs.declared.tree.SqlScalar.{SqlScalar, Number, Chars, Sum, Case}

@@ -1,6 +1,7 @@
 -- Which of two candidates is better, as SQL conditions on what their leaves rank by (after Kießling
 -- and Köstler 2002).
-use Rattle.std.specs.Prelude.{ℕ, ◌+◌, Bool, true, false, if◌then◌else◌, List, [], ◌∷◌, map, slice_index_or}
+use Rattle.std.specs.Prelude.{ℕ, ◌+◌, Bool, true, false, if◌then◌else◌, List, [], ◌∷◌, map}
+use Rattle.std.specs.Prelude.{slice_index_or}
 use Rattle.prefsql_values.specs.declared.value.CompareOp.TheVariants.{Eq, Lt, Gt}
 use Rattle.prefsql_values.specs.declared.value.Domain.TheVariants.{Integer}
 use Rattle.prefsql_values.specs.declared.value.Value.{Value}

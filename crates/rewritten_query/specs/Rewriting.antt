@@ -18,7 +18,8 @@ use Rattle.sql_tree.specs.Select.{select}
 use Rattle.rewritten_query.specs.Columns.{auxiliary_items, number_among, rank_column, used}
 use Rattle.rewritten_query.specs.Conditions.{cond_put, conjunction, scalar_put}
 use Rattle.rewritten_query.specs.Leaves.{number, rank_scalar}
-use Rattle.rewritten_query.specs.Names.{table_name, candidates_name, rivals_name, rival_name, of_tables, column_up}
+use Rattle.rewritten_query.specs.Names.{table_name, candidates_name, rivals_name, rival_name}
+use Rattle.rewritten_query.specs.Names.{of_tables, column_up}
 use Rattle.rewritten_query.specs.Rankings.{group_cond, ranking_of}
 
 -- the FROM table of a number

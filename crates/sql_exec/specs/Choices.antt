@@ -1,5 +1,6 @@
 -- The choices of one row of each list, in the order of their product.
-use Rattle.std.specs.Prelude.{ℕ, ◌+◌, ◌<◌, ◌≡◌, Option, Some, None, List, [], ◌∷◌, ◌++◌, drop, length, map, slice_index_or}
+use Rattle.std.specs.Prelude.{ℕ, ◌+◌, ◌<◌, ◌≡◌, Option, Some, None, List, [], ◌∷◌, ◌++◌, drop}
+use Rattle.std.specs.Prelude.{length, map, slice_index_or}
 use Rattle.std.specs.List.{flat_map}
 use Rattle.prefsql_tables.specs.Product.{product}
 use Rattle.sql_tree.specs.Meaning as meaning
@@ -16,7 +17,8 @@ behind (xs ∷ lists) (x ∷ row) (place ∷ places) =
     ++ flat_map (λ y. map (λ rest. y ∷ rest) (product lists)) (drop (place + 1) xs)
 
 -- there is one element of each list, and a place that the list has
-pub record IsPlaced {X : Type 0} (lists : List (List X)) (row : List X) (places : List ℕ) : Type 0 where
+pub record IsPlaced {X : Type 0} (lists : List (List X)) (row : List X)
+    (places : List ℕ) : Type 0 where
   pub row_count : length row ≡ length lists
   pub place_count : length places ≡ length lists
   pub within : (k : ℕ) → k < length lists

@@ -11,7 +11,8 @@ use Rattle.prefsql_tables.specs.declared.table.AnswerRow.{AnswerRow}
 use Rattle.prefsql_tables.specs.Product.{product}
 use Rattle.sql_tree.specs.Meaning.{Scope, Scopes, place_value, or_else, first_some}
 use Rattle.sql_exec.specs.declared.ready.ReadyCond.{ReadyCond, fold-ReadyCond}
-use Rattle.sql_exec.specs.declared.ready.ReadyCond.TheOpen.{ReadyCond-F, ReadyScalar-F, ReadySearch-F, ReadyWhen-F}
+use Rattle.sql_exec.specs.declared.ready.ReadyCond.TheOpen.{ReadyCond-F, ReadyScalar-F}
+use Rattle.sql_exec.specs.declared.ready.ReadyCond.TheOpen.{ReadySearch-F, ReadyWhen-F}
 use Rattle.sql_exec.specs.declared.ready.ReadyScalar.{ReadyScalar, fold-ReadyScalar}
 use Rattle.sql_exec.specs.declared.ready.ReadySearch.{ReadySearch, fold-ReadySearch}
 use Rattle.sql_exec.specs.declared.ready.ReadyWhen.{ReadyWhen, fold-ReadyWhen}

@@ -15,7 +15,10 @@ use Rattle.sql_tree.specs.declared.tree.SqlItem.{SqlItem, fold-SqlItem}
 use Rattle.sql_tree.specs.declared.tree.SqlQuery.{SqlQuery, fold-SqlQuery}
 use Rattle.sql_tree.specs.declared.tree.SqlWhen.{SqlWhen, fold-SqlWhen}
 use Rattle.sql_tree.specs.declared.tree.SumTerm.{SumTerm, fold-SumTerm}
-use Rattle.sql_tree.specs.Meaning.{CondMeaning, FromMeaning, Level, QueryMeaning, ScalarMeaning, WhenMeaning, cond_step, else_value, first_some, from_step, item_step, or_else, place_value, query_step, signed, source_step, sum_of, when_step}
+use Rattle.sql_tree.specs.Meaning.{CondMeaning, FromMeaning, Level, QueryMeaning, ScalarMeaning}
+use Rattle.sql_tree.specs.Meaning.{WhenMeaning, cond_step, else_value, first_some, from_step}
+use Rattle.sql_tree.specs.Meaning.{item_step, or_else, place_value, query_step, signed, source_step}
+use Rattle.sql_tree.specs.Meaning.{sum_of, when_step}
 
 -- the value, where a number is taken in the range
 abbrev pub wrapped : Value → Value

@@ -86,7 +86,8 @@ fn choose<'t>(choice: &mut Choice<'t>, item: usize, place: usize)
     ensures choice { IsChoice choice.new }
     ensures items { choice.new.items ≡ choice.old.items }
     ensures places { choice.new.places.items ≡ set choice.old.places.items item place }
-    ensures rows { rows_seen choice.new.rows.items ≡ set (rows_seen choice.old.rows.items) item (slice_index_or (slice_index_or choice.old.items.now item []) place no_row) }
+    ensures rows { rows_seen choice.new.rows.items ≡ set (rows_seen choice.old.rows.items) item
+        (slice_index_or (slice_index_or choice.old.items.now item []) place no_row) }
 {
     let items = choice.items;
     let rows = items[item].as_slice();

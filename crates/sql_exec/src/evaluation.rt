@@ -1,6 +1,6 @@
-//! The truth of a condition and the value of a scalar, for the rows that they see. Sums and signs are taken
-//! in the range of a 128-bit number. No number in a well-formed query is past 10^36, by its static bounds,
-//! so that none of them wraps.
+//! The truth of a condition and the value of a scalar, for the rows that they see. Sums and signs
+//! are taken in the range of a 128-bit number. No number in a well-formed query is past 10^36, by
+//! its static bounds, so that none of them wraps.
 ghost use Rattle.std.specs.Prelude.{◌≡◌, true, map, IfOk};
 ghost use Rattle.std.specs.List.{list_any};
 ghost use Rattle.std.specs.Option.{option_map};
@@ -30,7 +30,8 @@ pub(crate) fn scalar_cell<'t>(
     own: &[&'t AnswerRow],
     outer: &[Scope<'t>],
 ) -> Result<Cell<'t>, Memory>
-    ensures { IfOk result (λ cell. value_of cell ≡ value scalar.now (scopes_seen own.now outer.now)) }
+    ensures { IfOk result
+        (λ cell. value_of cell ≡ value scalar.now (scopes_seen own.now outer.now)) }
 {
     match scalar {
         ReadyScalar::Column(place) => Ok(cell_at(*place, own, outer)),
@@ -58,7 +59,9 @@ fn first_true<'t>(
     own: &[&'t AnswerRow],
     outer: &[Scope<'t>],
 ) -> Result<Option<Cell<'t>>, Memory>
-    ensures { IfOk result (λ found. found_value found ≡ first_some (map (λ w. when_value w (scopes_seen own.now outer.now)) whens.now)) }
+    ensures { IfOk result
+        (λ found. found_value found
+        ≡ first_some (map (λ w. when_value w (scopes_seen own.now outer.now)) whens.now)) }
 {
     for when in whens {
         match when_cell(alloc, when, own, outer)? {
@@ -78,7 +81,8 @@ fn when_cell<'t>(
     own: &[&'t AnswerRow],
     outer: &[Scope<'t>],
 ) -> Result<Option<Cell<'t>>, Memory>
-    ensures { IfOk result (λ found. found_value found ≡ when_value when.now (scopes_seen own.now outer.now)) }
+    ensures { IfOk result
+        (λ found. found_value found ≡ when_value when.now (scopes_seen own.now outer.now)) }
 {
     match truth(alloc, &when.cond, own, outer)? {
         Truth::True => Ok(Some(scalar_cell(alloc, &when.value, own, outer)?)),
@@ -96,7 +100,9 @@ fn sum<'t>(
     own: &[&'t AnswerRow],
     outer: &[Scope<'t>],
 ) -> Result<Cell<'t>, Memory>
-    ensures { IfOk result (λ cell. value_of cell ≡ wrapped_sum (map (λ term. value term (scopes_seen own.now outer.now)) terms.now)) }
+    ensures { IfOk result
+        (λ cell. value_of cell
+        ≡ wrapped_sum (map (λ term. value term (scopes_seen own.now outer.now)) terms.now)) }
 {
     let mut sum = Cell::Num(0);
     for term in terms {
@@ -176,7 +182,8 @@ fn all_hold<'t>(
     own: &[&'t AnswerRow],
     outer: &[Scope<'t>],
 ) -> Result<Truth, Memory>
-    ensures { IfOk result (λ t. t ≡ all_true (map (λ part. truth part (scopes_seen own.now outer.now)) parts.now)) }
+    ensures { IfOk result
+        (λ t. t ≡ all_true (map (λ part. truth part (scopes_seen own.now outer.now)) parts.now)) }
 {
     let mut so_far = Truth::True;
     for part in parts {
@@ -197,7 +204,8 @@ fn any_holds<'t>(
     own: &[&'t AnswerRow],
     outer: &[Scope<'t>],
 ) -> Result<Truth, Memory>
-    ensures { IfOk result (λ t. t ≡ any_true (map (λ part. truth part (scopes_seen own.now outer.now)) parts.now)) }
+    ensures { IfOk result
+        (λ t. t ≡ any_true (map (λ part. truth part (scopes_seen own.now outer.now)) parts.now)) }
 {
     let mut so_far = Truth::False;
     for part in parts {
@@ -219,7 +227,9 @@ fn is_one_of<'t>(
     own: &[&'t AnswerRow],
     outer: &[Scope<'t>],
 ) -> Result<Truth, Memory>
-    ensures { IfOk result (λ t. t ≡ one_of (value_of cell.entry) (map (λ b. value b (scopes_seen own.now outer.now)) list.now)) }
+    ensures { IfOk result
+        (λ t. t ≡ one_of (value_of cell.entry) (map
+        (λ b. value b (scopes_seen own.now outer.now)) list.now)) }
 {
     let mut so_far = Truth::False;
     for item in list {
@@ -241,7 +251,8 @@ fn exists<'t>(
     own: &[&'t AnswerRow],
     outer: &[Scope<'t>],
 ) -> Result<Truth, Memory>
-    ensures { IfOk result (λ t. t ≡ truth (ReadyCond.Exists search.now) (scopes_seen own.now outer.now)) }
+    ensures { IfOk result
+        (λ t. t ≡ truth (ReadyCond.Exists search.now) (scopes_seen own.now outer.now)) }
 {
     let scopes = entered(alloc, own, outer)?;
     Ok(truth_of(is_found(alloc, search, scopes.as_slice())?))
@@ -250,7 +261,8 @@ fn exists<'t>(
 /// Whether a search finds a scope. It stops at the first one.
 #[cycle(evaluation)]
 fn is_found<'t>(alloc: Global, search: &'t ReadySearch, outer: &[Scope<'t>]) -> Result<bool, Memory>
-    ensures { IfOk result (λ found. found ≡ list_any (λ _. true) (kept search.now (outer_seen outer.now))) }
+    ensures { IfOk result
+        (λ found. found ≡ list_any (λ _. true) (kept search.now (outer_seen outer.now))) }
 {
     let mut next = first_choice(alloc, search.items.as_slice())?;
     while let Some(choice) = next {
@@ -270,7 +282,8 @@ pub(crate) fn is_kept<'t>(
     own: &[&'t AnswerRow],
     outer: &[Scope<'t>],
 ) -> Result<bool, Memory>
-    ensures { IfOk result (λ kept. kept ≡ is_true (truth cond.now (scopes_seen own.now outer.now))) }
+    ensures { IfOk result
+        (λ kept. kept ≡ is_true (truth cond.now (scopes_seen own.now outer.now))) }
 {
     match truth(alloc, cond, own, outer)? {
         Truth::True => Ok(true),

@@ -11,12 +11,13 @@ use prefsql_values::{List, Memory, Text};
 use sql_tree::{SqlItem, SqlQuery};
 use std::alloc::Global;
 
-/// The answer of a query over a set of tables (ISO/IEC 9075:1992, query expression): the names of its
-/// items, and its rows by its keys and then by all columns. It is an error only for want of memory.
+/// The answer of a query over a set of tables (ISO/IEC 9075:1992, query expression): the names of
+/// its items, and its rows by its keys and then by all columns. It is an error only for want of
+/// memory.
 ///
-/// Needs a well-formed query, and tables that it fits. The bounds of the numbers of such a query are far
-/// below the range of those that the sums are computed in, so no sum wraps. A derived table is computed
-/// once, EXISTS stops at its first row, and no product of FROM items is stored.
+/// Needs a well-formed query, and tables that it fits. The bounds of the numbers of such a query
+/// are far below the range of those that the sums are computed in, so no sum wraps. A derived table
+/// is computed once, EXISTS stops at its first row, and no product of FROM items is stored.
 pub fn execute(alloc: Global, query: &SqlQuery, tables: &TableSet) -> Result<Answer, Memory>
     requires formed { IsWellFormed query.now }
     requires fits { FitsTables tables.now query.now }

@@ -18,7 +18,10 @@ pub(crate) fn gather<'t>(
     items: &'t [ReadyScalar],
     outer: &[Scope<'t>],
 ) -> Result<List<AnswerRow>, Memory>
-    ensures { IfOk result (λ rows. rows ≡ map (λ scope. row_of items.now (scope ∷ outer_seen outer.now)) (kept search.now (outer_seen outer.now))) }
+    ensures { IfOk result
+        (λ rows. rows ≡ map
+        (λ scope. row_of items.now (scope ∷ outer_seen outer.now))
+        (kept search.now (outer_seen outer.now))) }
 {
     let mut rows = List::new(alloc);
     let mut next = first_choice(alloc, search.items.as_slice())?;
@@ -45,7 +48,8 @@ fn add_row<'t>(
     outer: &[Scope<'t>],
     rows: &mut List<AnswerRow>,
 ) -> Result<(), Memory>
-    ensures { OnOk result (rows.new ≡ rows.old ++ (if keeps cond.now (scopes_seen own.now outer.now) then row_of items.now (scopes_seen own.now outer.now) ∷ [] else [])) }
+    ensures { OnOk result (rows.new ≡ rows.old ++ (if keeps cond.now (scopes_seen own.now outer.now)
+        then row_of items.now (scopes_seen own.now outer.now) ∷ [] else [])) }
 {
     if is_kept(alloc, cond, own, outer)? {
         let row = projected(alloc, items, own, outer)?;

@@ -131,7 +131,8 @@ fn ready_else(
     tables: &TableSet,
 ) -> Result<ReadyScalar, Memory>
     requires { All (IsTableOf tables.now) (if_written (option_map scalar_tables last.now)) }
-    ensures { IfOk result (λ ready. value ready ≡ else_value (option_map (value_in tables.now) last.now)) }
+    ensures { IfOk result
+        (λ ready. value ready ≡ else_value (option_map (value_in tables.now) last.now)) }
 {
     match last {
         Some(last) => ready_scalar(alloc, last.get(), tables),
@@ -147,7 +148,8 @@ fn ready_whens(
     tables: &TableSet,
 ) -> Result<List<ReadyWhen>, Memory>
     requires { All (IsTableOf tables.now) (flat_map when_tables whens.now) }
-    ensures { IfOk result (λ ready. map when_value ready ≡ map (sql_when_value tables.now) whens.now) }
+    ensures { IfOk result
+        (λ ready. map when_value ready ≡ map (sql_when_value tables.now) whens.now) }
 {
     let mut ready = List::new(alloc);
     for when in whens {
@@ -232,7 +234,8 @@ fn ready_filter(
     tables: &TableSet,
 ) -> Result<ReadyCond, Memory>
     requires { All (IsTableOf tables.now) (if_written (option_map cond_tables filter.now)) }
-    ensures { IfOk result (λ ready. keeps ready ≡ is_kept (option_map (truth_in tables.now) filter.now)) }
+    ensures { IfOk result
+        (λ ready. keeps ready ≡ is_kept (option_map (truth_in tables.now) filter.now)) }
 {
     match filter {
         Some(cond) => ready_cond(alloc, cond, tables),
@@ -313,7 +316,8 @@ fn shown(
     search: &ReadySearch,
     items: &[ReadyScalar],
 ) -> Result<List<AnswerRow>, Memory>
-    ensures { IfOk result (λ rows. rows ≡ map (λ scope. row_of items.now (scope ∷ [])) (kept search.now [])) }
+    ensures { IfOk result
+        (λ rows. rows ≡ map (λ scope. row_of items.now (scope ∷ [])) (kept search.now [])) }
 {
     let outer = Vec::new(alloc);
     gather(alloc, search, items, outer.as_slice())

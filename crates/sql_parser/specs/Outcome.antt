@@ -5,7 +5,8 @@ use Rattle.grammar_forms.specs.Reading.{Outcome, read, read_rule}
 use Rattle.prefsql_lexer.specs.declared.token.Token.{Token}
 use Rattle.prefsql_lexer.specs.declared.token.Keyword.TheVariants as word
 use Rattle.prefsql_lexer.specs.declared.token.Symbol.TheVariants as symbol
-use Rattle.token_forms.specs.Classes.{class, name_class, number_class, chars_class, symbol_class, word_class}
+use Rattle.token_forms.specs.Classes.{class, name_class, number_class, chars_class, symbol_class}
+use Rattle.token_forms.specs.Classes.{word_class}
 use Rattle.sql_text.specs.Grammar.{Grammar, Rule, condition_rule, results_rule, query_rule}
 use Rattle.sql_parser.specs.ReadGrammar.{condition, results_form, query_form}
 

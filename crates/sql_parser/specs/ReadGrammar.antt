@@ -10,8 +10,12 @@ use Rattle.sql_text.specs.declared.named.NamedScalar.{NamedScalar}
 use Rattle.sql_text.specs.declared.named.NamedStatement.{NamedStatement}
 use Rattle.sql_text.specs.declared.named.NamedTerm.{NamedTerm}
 use Rattle.sql_text.specs.declared.named.NamedWhen.{NamedWhen}
-use Rattle.sql_text.specs.Grammar.{Grammar, Rest, Results, condition_rule, later_term, sum, comparison, between, member, null_test, exists, negated_rest, test_tree, negated_tree, when_tree, item, list, from_items, query_tree, statement_tree}
-use Rattle.token_forms.specs.Forms.{◌⨟◌, ◌⨟>◌, ◌<$>◌, ◌∣◌, word_at, word_only, separated, comma, in_parens, chain}
+use Rattle.sql_text.specs.Grammar.{Grammar, Rest, Results, condition_rule, later_term, sum}
+use Rattle.sql_text.specs.Grammar.{comparison, between, member, null_test, exists, negated_rest}
+use Rattle.sql_text.specs.Grammar.{test_tree, negated_tree, when_tree, item, list, from_items}
+use Rattle.sql_text.specs.Grammar.{query_tree, statement_tree}
+use Rattle.token_forms.specs.Forms.{◌⨟◌, ◌⨟>◌, ◌<$>◌, ◌∣◌, word_at, word_only, separated, comma}
+use Rattle.token_forms.specs.Forms.{in_parens, chain}
 use Rattle.token_forms.specs.Phrases.{distinctness, negation, ordering}
 
 -- { ( "+" | "-" ) factor }

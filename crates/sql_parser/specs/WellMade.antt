@@ -1,7 +1,8 @@
 -- What is true of each tree that the grammar of SQL scripts builds from tokens: names have 1 to 64
 -- characters and numbers at most eighteen digits, no list is too short, and no sum stands in a sum.
 -- These bounds and shapes are this project's own.
-use Rattle.std.specs.Prelude.{ℕ, Bool, true, false, ◌&&◌, not, IsTrue, All, nat_le, List, [], ◌∷◌, length, map, Option, Some, None}
+use Rattle.std.specs.Prelude.{ℕ, Bool, true, false, ◌&&◌, not, IsTrue, All, nat_le, List, [], ◌∷◌}
+use Rattle.std.specs.Prelude.{length, map, Option, Some, None}
 use Rattle.std.specs.List.{list_all}
 use Rattle.prefsql_values.specs.declared.value.Value.{Value}
 use Rattle.prefsql_values.specs.declared.value.Value.TheVariants.{Num, Str, Null}
@@ -11,7 +12,9 @@ use Rattle.query_tree.specs.declared.query.OrderName.{OrderName}
 use Rattle.query_tree.specs.declared.query.OrderName.TheVariants.{Name, Position}
 use Rattle.sql_tree.specs.WellFormed.{is_name, is_short}
 use Rattle.sql_text.specs.declared.named.NamedCond.{NamedCond, fold-NamedCond}
-use Rattle.sql_text.specs.declared.named.NamedCond.TheOpen.{NamedCond-F, NamedFrom-F, NamedScalar-F, NamedSelect-F, NamedItem-F, NamedQuery-F, NamedTerm-F, NamedWhen-F}
+use Rattle.sql_text.specs.declared.named.NamedCond.TheOpen.{NamedCond-F, NamedFrom-F, NamedScalar-F}
+use Rattle.sql_text.specs.declared.named.NamedCond.TheOpen.{NamedSelect-F, NamedItem-F}
+use Rattle.sql_text.specs.declared.named.NamedCond.TheOpen.{NamedQuery-F, NamedTerm-F, NamedWhen-F}
 use Rattle.sql_text.specs.declared.named.NamedFrom.{NamedFrom, fold-NamedFrom}
 use Rattle.sql_text.specs.declared.named.NamedScalar.{NamedScalar, fold-NamedScalar}
 use Rattle.sql_text.specs.declared.named.NamedSelect.{NamedSelect, fold-NamedSelect}

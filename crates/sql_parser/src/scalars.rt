@@ -135,7 +135,8 @@ impl Reader {
     #[tactic(auto, unfolding(crate::specs::ReadGrammar::results_form))]
     #[cycle(query)]
     fn results(self, tokens: &mut Cursor<'_>) -> Result<Results, Stop>
-        ensures { Reads (outcome self.depth read_grammar.results_form tokens.old) result tokens.new }
+        ensures { Reads (outcome self.depth read_grammar.results_form tokens.old) result
+            tokens.new }
     {
         let whens = self.whens(tokens)?;
         let (whens, otherwise) = both(whens, self.otherwise(tokens))?;

@@ -88,7 +88,8 @@ fn parts_and_first_faults(rt: HostRuntime) -> Result<(), Fail> {
     Ok(())
 }
 
-// A script of 64 statements has 64 trees. In one of 65 the last SELECT is too many, at byte 64 times
+// A script of 64 statements has 64 trees. In one of 65 the last SELECT is too many, at byte 64
+// times
 // 20.
 #[test]
 fn at_most_64_statements(rt: HostRuntime) -> Result<(), Fail> {

@@ -13,24 +13,26 @@ ghost use Rattle.sql_read_back.specs.Texts.{AreWritable, texts_of};
 use prefsql_tables::TableSet;
 use sql_tree::SqlQuery;
 
-/// The text of a valid query reads, over tables that the query fits, as this one query and as nothing
-/// else. It has at most 268,435,456 bytes, as every text that is read; that it is UTF-8 is what
-/// `write_sql` ensures.
+/// The text of a valid query reads, over tables that the query fits, as this one query and as
+/// nothing else. It has at most 268,435,456 bytes, as every text that is read; that it is UTF-8 is
+/// what `write_sql` ensures.
 pub fn reads_back(query: &SqlQuery, tables: &TableSet)
     requires valid { IsValid query.now }
     requires fits { FitsTables tables.now query.now }
     requires utf8 { IsUtf8 (text_of query.now) }
     requires within { length (text_of query.now) ≤ 268435456 }
     ensures reads { ReadsAs tables.now (text_of query.now) (query.now ∷ []) }
-    ensures alone { (queries : List tree.SqlQuery) → ReadsAs tables.now (text_of query.now) queries → queries ≡ query.now ∷ [] }
+    ensures alone { (queries : List tree.SqlQuery) → ReadsAs tables.now (text_of query.now) queries
+        → queries ≡ query.now ∷ [] }
 {
     let _ = query;
     tables.keeps_limits();
 }
 
-/// The texts of valid queries, one after the other, read, over tables that the queries fit, as these
-/// queries in order and as nothing else. They are at most 64, and their texts have at most
-/// 268,435,456 bytes, as every script that is read; of no query the text is empty and reads as none.
+/// The texts of valid queries, one after the other, read, over tables that the queries fit, as
+/// these queries in order and as nothing else. They are at most 64, and their texts have at most
+/// 268,435,456 bytes, as every script that is read; of no query the text is empty and reads as
+/// none.
 pub fn texts_read_back()
     ensures reads { (tables : Tables) (queries : List tree.SqlQuery) → IsTableSet tables
         → AreWritable tables queries → ReadsAs tables (texts_of queries) queries }

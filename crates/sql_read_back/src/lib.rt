@@ -1,5 +1,5 @@
-//! The laws of reading back: the text of a valid SQL query reads as that query alone, and the texts of
-//! several, one after the other, read as these.
+//! The laws of reading back: the text of a valid SQL query reads as that query alone, and the texts
+//! of several, one after the other, read as these.
 #![tactic(auto)]
 
 mod laws;

@@ -1,6 +1,7 @@
 -- What is found of each part of a query: what is read of it, with its first fault in place of all,
 -- and a bound above the greatest one as that and one.
-use Rattle.std.specs.Prelude.{ℕ, ◌+◌, ◌++◌, Bool, if◌then◌else◌, nat_lt, List, [], ◌∷◌, map, max, min, Option, Some, None, Result, Ok, Err}
+use Rattle.std.specs.Prelude.{ℕ, ◌+◌, ◌++◌, Bool, if◌then◌else◌, nat_lt, List, [], ◌∷◌, map, max}
+use Rattle.std.specs.Prelude.{min, Option, Some, None, Result, Ok, Err}
 use Rattle.std.specs.List.{list_any}
 use Rattle.std.specs.Option.{option_map}
 use Rattle.std.specs.Str.{bytes_eq}
@@ -35,7 +36,10 @@ use Rattle.sql_resolver.specs.declared.found.Selected.{Selected}
 use Rattle.sql_resolver.specs.Scope.{ScopeColumn, ScopeItem, Scopes}
 use Rattle.sql_resolver.specs.Owed.{Fault, both_bounds, differ, fault, is_text, max_bound}
 use Rattle.sql_resolver.specs.Outcomes.{all_of, also, earlier_if, formed, outcome, paired}
-use Rattle.sql_resolver.specs.Reading.{CondReading, FromReading, OutputReading, QueryReading, ScalarReading, TermReading, WhenReading, cond_reading, from_reading, output_name, query_reading, scalar_reading, select_reading, term_reading, when_reading}
+use Rattle.sql_resolver.specs.Reading.{CondReading, FromReading, OutputReading, QueryReading}
+use Rattle.sql_resolver.specs.Reading.{ScalarReading, TermReading, WhenReading, cond_reading}
+use Rattle.sql_resolver.specs.Reading.{from_reading, output_name, query_reading, scalar_reading}
+use Rattle.sql_resolver.specs.Reading.{select_reading, term_reading, when_reading}
 
 -- ---- parts
 

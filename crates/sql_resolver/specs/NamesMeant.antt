@@ -1,6 +1,7 @@
 -- Which columns a name can mean, by the names in scope. These rules follow SQL-92 (ISO/IEC
 -- 9075:1992); the profile is this project's own.
-use Rattle.std.specs.Prelude.{ℕ, ◌+◌, Bool, true, if◌then◌else◌, List, [], ◌∷◌, ◌++◌, map, Option, Some, None}
+use Rattle.std.specs.Prelude.{ℕ, ◌+◌, Bool, true, if◌then◌else◌, List, [], ◌∷◌, ◌++◌, map, Option}
+use Rattle.std.specs.Prelude.{Some, None}
 use Rattle.std.specs.List.{list_any}
 use Rattle.std.specs.Str.{bytes_eq}
 use Rattle.sql_tree.specs.declared.tree.SqlPlace.{SqlPlace}

@@ -1,6 +1,7 @@
 -- What is owed and not kept, by its code and place, and the first of it; domains and bounds where a
 -- name may have no single meaning. The codes, their places and their order are this project's own.
-use Rattle.std.specs.Prelude.{ℕ, ◌^◌, Bool, true, false, ◌&&◌, ◌||◌, if◌then◌else◌, ◌==◌, nat_lt, List, [], ◌∷◌, Option, Some, None}
+use Rattle.std.specs.Prelude.{ℕ, ◌^◌, Bool, true, false, ◌&&◌, ◌||◌, if◌then◌else◌, ◌==◌, nat_lt}
+use Rattle.std.specs.Prelude.{List, [], ◌∷◌, Option, Some, None}
 use Rattle.prefsql_lexer.specs.declared.fault.Spot.{Spot}
 use Rattle.prefsql_values.specs.declared.value.Domain.{Domain}
 use Rattle.prefsql_values.specs.declared.value.Domain.TheVariants.{Integer, Chars as CharsDomain}

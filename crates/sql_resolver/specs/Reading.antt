@@ -1,7 +1,8 @@
 -- What each part of an SQL query means over a set of tables: the tree that it is, and what it owes
 -- and does not keep. The profile of SQL-92 (ISO/IEC 9075:1992), the codes, their places and their
 -- order are this project's own.
-use Rattle.std.specs.Prelude.{ℕ, ◌+◌, pos, Bool, if◌then◌else◌, nat_lt, List, [], ◌∷◌, ◌++◌, map, max, Option, Some, None, codes, slice_index_or}
+use Rattle.std.specs.Prelude.{ℕ, ◌+◌, pos, Bool, if◌then◌else◌, nat_lt, List, [], ◌∷◌, ◌++◌, map}
+use Rattle.std.specs.Prelude.{max, Option, Some, None, codes, slice_index_or}
 use Rattle.std.specs.List.{flat_map, list_any}
 use Rattle.std.specs.Str.{bytes_eq}
 use Rattle.std.specs.Fmt.{decimal}
@@ -17,14 +18,17 @@ use Rattle.query_tree.specs.declared.name.NameTree.{NameTree}
 use Rattle.query_tree.specs.declared.query.FromTree.{FromTree}
 use Rattle.sql_tree.specs.declared.tree.SqlPlace.{SqlPlace}
 use Rattle.sql_tree.specs.declared.tree.SqlScalar.{SqlScalar, Column, Number, Chars, Sum, Case}
-use Rattle.sql_tree.specs.declared.tree.SqlCond.{SqlCond, And, Or, Not, Compare, Between, OneOf, IsNull, Exists}
+use Rattle.sql_tree.specs.declared.tree.SqlCond.{SqlCond, And, Or, Not, Compare, Between, OneOf}
+use Rattle.sql_tree.specs.declared.tree.SqlCond.{IsNull, Exists}
 use Rattle.sql_tree.specs.declared.tree.SqlSource.{Table, Derived}
 use Rattle.sql_tree.specs.declared.tree.SqlItem.{SqlItem}
 use Rattle.sql_tree.specs.declared.tree.SqlFrom.{SqlFrom}
 use Rattle.sql_tree.specs.declared.tree.SqlQuery.{SqlQuery, roll-SqlQuery}
 use Rattle.sql_tree.specs.Shown.{domain_shape, short_bound}
 use Rattle.sql_text.specs.declared.named.NamedCond.{NamedCond, fold-NamedCond}
-use Rattle.sql_text.specs.declared.named.NamedCond.TheOpen.{NamedCond-F, NamedFrom-F, NamedScalar-F, NamedSelect-F, NamedItem-F, NamedQuery-F, NamedTerm-F, NamedWhen-F}
+use Rattle.sql_text.specs.declared.named.NamedCond.TheOpen.{NamedCond-F, NamedFrom-F, NamedScalar-F}
+use Rattle.sql_text.specs.declared.named.NamedCond.TheOpen.{NamedSelect-F, NamedItem-F}
+use Rattle.sql_text.specs.declared.named.NamedCond.TheOpen.{NamedQuery-F, NamedTerm-F, NamedWhen-F}
 use Rattle.sql_text.specs.declared.named.NamedFrom.{NamedFrom, fold-NamedFrom}
 use Rattle.sql_text.specs.declared.named.NamedScalar.{NamedScalar, fold-NamedScalar}
 use Rattle.sql_text.specs.declared.named.NamedSelect.{NamedSelect, fold-NamedSelect}
@@ -34,7 +38,8 @@ use Rattle.sql_text.specs.declared.named.NamedTerm.{NamedTerm, fold-NamedTerm}
 use Rattle.sql_text.specs.declared.named.NamedWhen.{NamedWhen, fold-NamedWhen}
 use Rattle.sql_resolver.specs.NamesMeant.{column_part, places_of}
 use Rattle.sql_resolver.specs.Scope.{ScopeColumn, ScopeItem, Scope, Scopes, names_in, column_at}
-use Rattle.sql_resolver.specs.Owed.{Fault, fault, fault_if, first_spot, either_spot, inner_faults, differ, is_text, max_bound, both_bounds}
+use Rattle.sql_resolver.specs.Owed.{Fault, fault, fault_if, first_spot, either_spot, inner_faults}
+use Rattle.sql_resolver.specs.Owed.{differ, is_text, max_bound, both_bounds}
 
 -- ---- what a part is
 

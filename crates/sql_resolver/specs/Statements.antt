@@ -1,7 +1,8 @@
 -- What an SQL script means over a set of tables: the query of each statement, or its first false
 -- obligation, that of ORDER BY last. The profile of SQL-92 (ISO/IEC 9075:1992) is this project's
 -- own.
-use Rattle.std.specs.Prelude.{ℕ, ◌-◌, ℤ, pos, negsuc, Bool, ◌||◌, ◌==◌, nat_lt, List, [], ◌∷◌, map, length, Option, Some, None, Result, Ok, Err}
+use Rattle.std.specs.Prelude.{ℕ, ◌-◌, ℤ, pos, negsuc, Bool, ◌||◌, ◌==◌, nat_lt, List, [], ◌∷◌, map}
+use Rattle.std.specs.Prelude.{length, Option, Some, None, Result, Ok, Err}
 use Rattle.std.specs.List.{flat_map}
 use Rattle.std.specs.Str.{bytes_eq}
 use Rattle.prefsql_lexer.specs.declared.fault.Spot.{Spot}

@@ -88,7 +88,8 @@ fn column_output(
     at: u32,
     column: &ScopeColumn,
 ) -> Result<FoundOutput, Memory>
-    ensures { IfOk result (λ output. output ≡ found.found_output (column_output item at column.now)) }
+    ensures { IfOk result
+        (λ output. output ≡ found.found_output (column_output item at column.now)) }
 {
     let place = SqlPlace {
         up: 0,

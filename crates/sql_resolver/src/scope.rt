@@ -90,7 +90,8 @@ impl Indexed {
 
     /// Whether the name means a column of these items, or of none.
     fn decides(&self, name: &NameKey) -> bool
-        ensures { result ≡ decides (key_first name.now) (key_second name.now) (scope_names self.now) }
+        ensures { result ≡ decides (key_first name.now) (key_second name.now)
+            (scope_names self.now) }
     {
         match &name.second {
             None => self.columns.contains_key(name),
@@ -150,7 +151,8 @@ impl Level {
 
     /// Whether the name means a column of these items, or of none.
     fn decides(&self, name: &NameKey) -> bool
-        ensures { result ≡ decides (key_first name.now) (key_second name.now) (scope_names self.now) }
+        ensures { result ≡ decides (key_first name.now) (key_second name.now)
+            (scope_names self.now) }
     {
         self.items.as_ref().decides(name)
     }

@@ -20,7 +20,8 @@ column_shown (Candidate used term) place = column_up 0 (number_among used.now pl
 
 abbrev pub quality_shown : Shown → Quality → SqlScalar
 quality_shown Tables quality = quality_of_tables quality
-quality_shown (Candidate used term) quality = column_up 0 (rank_column used.now (leaves_of term.now) quality.leaf)
+quality_shown (Candidate used term) quality =
+    column_up 0 (rank_column used.now (leaves_of term.now) quality.leaf)
 
 -- a literal is one that a script can write
 abbrev pub HasLiteral : Scalar → Type 0

@@ -38,7 +38,8 @@ fn used_items(alloc: Global, places: &[ColumnPlace]) -> Result<List<SqlItem>, Me
 
 /// Adds the code of an EXPLICIT leaf.
 fn push_code(alloc: Global, leaf: &Leaf, items: &mut List<SqlItem>) -> Result<(), Memory>
-    ensures { OnOk result (items.new ≡ items.old ++ code_items leaf.now.base leaf.now.place leaf.now.number) }
+    ensures { OnOk result (items.new ≡ items.old
+        ++ code_items leaf.now.base leaf.now.place leaf.now.number) }
 {
     leaf.base.keeps_limits();
     match leaf.base.view() {

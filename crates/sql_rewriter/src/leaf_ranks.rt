@@ -49,7 +49,9 @@ fn by_set(
     outside: u32,
 ) -> Result<SqlScalar, Memory>
     requires { All IsLiteralValue values.now }
-    ensures { IfOk result (λ scalar. scalar ≡ cases (when_so (is_among (of_tables place) values.now) (number inside) ∷ []) (number outside)) }
+    ensures { IfOk result
+        (λ scalar. scalar ≡ cases (when_so (is_among (of_tables place) values.now) (number inside)
+        ∷ []) (number outside)) }
 {
     let mut whens = List::new(alloc);
     whens.push(SqlWhen {
@@ -70,7 +72,10 @@ fn by_two_sets(
 ) -> Result<SqlScalar, Memory>
     requires first_literal { All IsLiteralValue first.now }
     requires second_literal { All IsLiteralValue second.now }
-    ensures { IfOk result (λ scalar. scalar ≡ cases (when_so (is_among (of_tables place) first.now) (number 1) ∷ when_so (is_among (of_tables place) second.now) (number in_second) ∷ []) (number outside)) }
+    ensures { IfOk result
+        (λ scalar. scalar ≡ cases (when_so (is_among (of_tables place) first.now) (number 1)
+        ∷ when_so (is_among (of_tables place) second.now) (number in_second)
+        ∷ []) (number outside)) }
 {
     let mut whens = List::new(alloc);
     whens.push(SqlWhen {
@@ -117,7 +122,10 @@ fn by_layers(
     requires few { length before.now + length after.now ≤ 256 }
     requires before_literal { All (λ (s : ValueSet). All IsLiteralValue s.values) before.now }
     requires after_literal { All (λ (s : ValueSet). All IsLiteralValue s.values) after.now }
-    ensures { IfOk result (λ scalar. scalar ≡ cases (set_whens (of_tables place) 1 before.now ++ set_whens (of_tables place) (length before.now + 2) after.now) (number (length before.now + 1))) }
+    ensures { IfOk result
+        (λ scalar. scalar ≡ cases (set_whens (of_tables place) 1 before.now
+        ++ set_whens (of_tables place) (length before.now + 2) after.now)
+        (number (length before.now + 1))) }
 {
     let others = before.len() as u32 + 1;
     let mut whens = List::new(alloc);
@@ -128,7 +136,9 @@ fn by_layers(
 
 /// How far the value is from the center.
 fn by_distance(alloc: Global, place: ColumnPlace, center: i64) -> Result<SqlScalar, Memory>
-    ensures { IfOk result (λ scalar. scalar ≡ cases (when_so (Compare Lt (of_tables place) (Number center)) (less (Number center) (of_tables place)) ∷ []) (less (of_tables place) (Number center))) }
+    ensures { IfOk result
+        (λ scalar. scalar ≡ cases (when_so (Compare Lt (of_tables place) (Number center))
+        (less (Number center) (of_tables place)) ∷ []) (less (of_tables place) (Number center))) }
 {
     let mut whens = List::new(alloc);
     whens.push(SqlWhen {
@@ -141,7 +151,11 @@ fn by_distance(alloc: Global, place: ColumnPlace, center: i64) -> Result<SqlScal
 
 /// How far the value is outside the bounds.
 fn by_bounds(alloc: Global, place: ColumnPlace, low: i64, up: i64) -> Result<SqlScalar, Memory>
-    ensures { IfOk result (λ scalar. scalar ≡ cases (when_so (Compare Lt (of_tables place) (Number low)) (less (Number low) (of_tables place)) ∷ when_so (Compare Gt (of_tables place) (Number up)) (less (of_tables place) (Number up)) ∷ []) (number 0)) }
+    ensures { IfOk result
+        (λ scalar. scalar ≡ cases
+        (when_so (Compare Lt (of_tables place) (Number low)) (less (Number low) (of_tables place))
+        ∷ when_so (Compare Gt (of_tables place) (Number up)) (less (of_tables place) (Number up))
+        ∷ []) (number 0)) }
 {
     let mut whens = List::new(alloc);
     whens.push(SqlWhen {
@@ -177,7 +191,9 @@ fn has_level(
 ) -> Result<SqlCond, Memory>
     requires explicit { IsTrue (is_explicit base.now) }
     requires literals { All IsLiteralValue values.now }
-    ensures { IfOk result (λ cond. cond ≡ is_among (of_tables place) (filter (λ v. nat_eq (graph_level (edges_of base.now) v) n) values.now)) }
+    ensures { IfOk result
+        (λ cond. cond ≡ is_among (of_tables place) (filter
+        (λ v. nat_eq (graph_level (edges_of base.now) v) n) values.now)) }
 {
     let mut list = List::new(alloc);
     for value in values {
@@ -214,7 +230,9 @@ fn by_graph(
     requires literals { All IsLiteralValue values.now }
     requires some { 0 < length values.now }
     requires few { length values.now ≤ 16 }
-    ensures { IfOk result (λ scalar. scalar ≡ cases (level_whens (of_tables place) (edges_of base.now)) (number (greatest_level (edges_of base.now) + 1))) }
+    ensures { IfOk result
+        (λ scalar. scalar ≡ cases (level_whens (of_tables place) (edges_of base.now))
+        (number (greatest_level (edges_of base.now) + 1))) }
 {
     let greatest = greatest(base, values);
     let mut whens = List::new(alloc);
@@ -236,7 +254,8 @@ pub(crate) fn code_scalar(
 ) -> Result<SqlScalar, Memory>
     requires few { length values.now ≤ 16 }
     requires literals { All IsLiteralValue values.now }
-    ensures { IfOk result (λ scalar. scalar ≡ cases (code_whens (of_tables place) 1 values.now) (number 0)) }
+    ensures { IfOk result
+        (λ scalar. scalar ≡ cases (code_whens (of_tables place) 1 values.now) (number 0)) }
 {
     let mut whens = List::new(alloc);
     let mut code = 1;

@@ -1,4 +1,5 @@
-//! Queries with preferences written as SQL-92 queries: by level columns and NOT EXISTS (after Kießling and Köstler 2002).
+//! Queries with preferences written as SQL-92 queries: by level columns and NOT EXISTS (after
+//! Kießling and Köstler 2002).
 #![tactic(auto)]
 
 mod auxiliary;

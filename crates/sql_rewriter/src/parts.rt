@@ -72,7 +72,9 @@ pub(crate) fn output_items(
 ) -> Result<List<SqlItem>, Memory>
     requires small { IsSmall shown.now }
     requires literal { All (λ (output : Output). HasLiteral output.scalar) outputs.now }
-    ensures { IfOk result (λ items. items ≡ output_items (column_shown shown.now) (quality_shown shown.now) outputs.now) }
+    ensures { IfOk result
+        (λ items. items ≡ output_items (column_shown shown.now)
+        (quality_shown shown.now) outputs.now) }
 {
     let mut items = List::new(alloc);
     for output in outputs {

@@ -47,7 +47,10 @@ fn codes_below(
     requires listed { values.now ≡ graph_values (edges_of base.now) }
     requires few { length values.now ≤ 16 }
     requires within { upper < length values.now }
-    ensures { IfOk result (λ codes. codes ≡ number 0 ∷ map number (codes_where (is_above (edges_of base.now) (slice_index_or values.now upper Null)) 1 values.now)) }
+    ensures { IfOk result
+        (λ codes. codes ≡ number 0
+        ∷ map number (codes_where
+        (is_above (edges_of base.now) (slice_index_or values.now upper Null)) 1 values.now)) }
 {
     let mut codes = List::new(alloc);
     codes.push(number(0))?;
@@ -59,7 +62,8 @@ fn codes_below(
     Ok(codes)
 }
 
-/// The rival has the code of the value at the place, and the candidate is outside the graph or has a code below it.
+/// The rival has the code of the value at the place, and the candidate is outside the graph or has
+/// a code below it.
 fn code_part(
     alloc: Global,
     base: &BasePref,
@@ -71,7 +75,9 @@ fn code_part(
     requires listed { values.now ≡ graph_values (edges_of base.now) }
     requires few { length values.now ≤ 16 }
     requires within { upper < length values.now }
-    ensures { IfOk result (λ cond. cond ≡ code_part (edges_of base.now) column (upper + 1) (slice_index_or values.now upper Null)) }
+    ensures { IfOk result
+        (λ cond. cond ≡ code_part (edges_of base.now) column (upper + 1)
+        (slice_index_or values.now upper Null)) }
 {
     let mut parts = List::new(alloc);
     let code = number(upper as u32 + 1);
@@ -100,7 +106,8 @@ fn code_parts(
     Ok(parts)
 }
 
-/// The rival is better by the base preference, whose rank stands in the column, and behind it the code of an EXPLICIT one.
+/// The rival is better by the base preference, whose rank stands in the column, and behind it the
+/// code of an EXPLICIT one.
 pub(crate) fn kind_better(alloc: Global, base: &BasePref, column: u32) -> Result<SqlCond, Memory>
     requires { column < 2 ^ 31 }
     ensures { IfOk result (λ cond. cond ≡ kind_better base.now column) }

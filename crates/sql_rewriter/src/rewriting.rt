@@ -142,7 +142,10 @@ fn only_cond(
     requires places { places.now ≡ used block.now term.now }
     requires few { length places.now ≤ 512 }
     requires leaves { length (leaves_of term.now) ≤ 8 }
-    ensures { IfOk result (λ cond. cond ≡ conjunction (map (cond_put (own_place block.now term.now) (own_quality block.now term.now)) block.now.only)) }
+    ensures { IfOk result
+        (λ cond. cond ≡ conjunction
+        (map (cond_put (own_place block.now term.now) (own_quality block.now term.now))
+        block.now.only)) }
 {
     let conds = put_conds(
         alloc,
@@ -164,7 +167,9 @@ fn own_items(
     requires places { places.now ≡ used block.now term.now }
     requires few { length places.now ≤ 512 }
     requires leaves { length (leaves_of term.now) ≤ 8 }
-    ensures { IfOk result (λ items. items ≡ output_items (own_place block.now term.now) (own_quality block.now term.now) block.now.output) }
+    ensures { IfOk result
+        (λ items. items ≡ output_items (own_place block.now term.now)
+        (own_quality block.now term.now) block.now.output) }
 {
     output_items(
         alloc,
@@ -244,11 +249,11 @@ fn described(alloc: Global, block: &Block) -> Result<SqlQuery, Memory>
     }
 }
 
-/// The SQL query that the block is written as. It is valid, and over every set of tables that the block fits its answer
-/// is the block's.
+/// The SQL query that the block is written as. It is valid, and over every set of tables that the
+/// block fits its answer is the block's.
 ///
-/// Needs a valid block. The only refusal is want of memory. The form is that of Kießling and Köstler (Preference SQL,
-/// VLDB 2002): level columns and NOT EXISTS.
+/// Needs a valid block. The only refusal is want of memory. The form is that of Kießling and
+/// Köstler (Preference SQL, VLDB 2002): level columns and NOT EXISTS.
 #[tactic(auto, using(crate::proofs::Rewritable::of_written))]
 pub fn rewrite(alloc: Global, block: &Block) -> Result<SqlQuery, Memory>
     requires valid { IsValidBlock block.now }

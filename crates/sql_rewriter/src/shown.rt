@@ -72,7 +72,8 @@ pub(crate) fn put_scalar(
 ) -> Result<SqlScalar, Memory>
     requires small { IsSmall shown.now }
     requires literal { HasLiteral scalar.now }
-    ensures { IfOk result (λ put. put ≡ scalar_put (column_shown shown.now) (quality_shown shown.now) scalar.now) }
+    ensures { IfOk result
+        (λ put. put ≡ scalar_put (column_shown shown.now) (quality_shown shown.now) scalar.now) }
 {
     match scalar {
         Scalar::Column(place) => Ok(column(shown, *place)),
@@ -88,7 +89,9 @@ fn put_scalars(
 ) -> Result<List<SqlScalar>, Memory>
     requires small { IsSmall shown.now }
     requires literal { All HasLiteral scalars.now }
-    ensures { IfOk result (λ put. put ≡ map (scalar_put (column_shown shown.now) (quality_shown shown.now)) scalars.now) }
+    ensures { IfOk result
+        (λ put. put ≡ map (scalar_put (column_shown shown.now) (quality_shown shown.now))
+        scalars.now) }
 {
     let mut put = List::new(alloc);
     for scalar in scalars {
@@ -103,7 +106,8 @@ fn put_scalars(
 pub(crate) fn put_cond(alloc: Global, shown: &Shown<'_>, cond: &Cond) -> Result<SqlCond, Memory>
     requires small { IsSmall shown.now }
     requires literal { All HasLiteral (scalars_of cond.now) }
-    ensures { IfOk result (λ put. put ≡ cond_put (column_shown shown.now) (quality_shown shown.now) cond.now) }
+    ensures { IfOk result
+        (λ put. put ≡ cond_put (column_shown shown.now) (quality_shown shown.now) cond.now) }
 {
     match cond {
         Cond::And(parts) => Ok(SqlCond::And(put_conds(alloc, shown, parts.as_slice())?)),
@@ -145,7 +149,8 @@ pub(crate) fn put_conds(
 ) -> Result<List<SqlCond>, Memory>
     requires small { IsSmall shown.now }
     requires literal { All HasLiteral (flat_map scalars_of conds.now) }
-    ensures { IfOk result (λ put. put ≡ map (cond_put (column_shown shown.now) (quality_shown shown.now)) conds.now) }
+    ensures { IfOk result
+        (λ put. put ≡ map (cond_put (column_shown shown.now) (quality_shown shown.now)) conds.now) }
 {
     let mut put = List::new(alloc);
     for cond in conds {

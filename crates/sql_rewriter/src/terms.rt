@@ -41,7 +41,8 @@ fn leaf_better(
 ) -> Result<SqlCond, Memory>
     requires few_places { length places.now < 2 ^ 16 }
     requires few_leaves { length (leaves_of whole.now) < 2 ^ 16 }
-    ensures { IfOk result (λ cond. cond ≡ (leaf_ranking places.now (leaves_of whole.now) leaf.now).better) }
+    ensures { IfOk result
+        (λ cond. cond ≡ (leaf_ranking places.now (leaves_of whole.now) leaf.now).better) }
 {
     kind_better(alloc, &leaf.base, rank_column(places, whole, leaf.number))
 }
@@ -65,7 +66,8 @@ fn leaf_same(places: &[ColumnPlace], whole: &Term, leaf: &Leaf) -> SqlCond
 fn same(alloc: Global, places: &[ColumnPlace], whole: &Term, term: &Term) -> Result<SqlCond, Memory>
     requires few_places { length places.now < 2 ^ 16 }
     requires few_leaves { length (leaves_of whole.now) < 2 ^ 16 }
-    ensures { IfOk result (λ cond. cond ≡ (ranking_of places.now (leaves_of whole.now) term.now).same) }
+    ensures { IfOk result
+        (λ cond. cond ≡ (ranking_of places.now (leaves_of whole.now) term.now).same) }
 {
     match term {
         Term::Leaf(leaf) => Ok(leaf_same(places, whole, leaf)),
@@ -92,7 +94,8 @@ pub(crate) fn better(
 ) -> Result<SqlCond, Memory>
     requires few_places { length places.now < 2 ^ 16 }
     requires few_leaves { length (leaves_of whole.now) < 2 ^ 16 }
-    ensures { IfOk result (λ cond. cond ≡ (ranking_of places.now (leaves_of whole.now) term.now).better) }
+    ensures { IfOk result
+        (λ cond. cond ≡ (ranking_of places.now (leaves_of whole.now) term.now).better) }
 {
     match term {
         Term::Leaf(leaf) => leaf_better(alloc, places, whole, leaf),

@@ -68,7 +68,8 @@ fn push_cond(cond: &Cond, places: &mut List<ColumnPlace>) -> Result<(), Memory>
 #[cycle(push)]
 #[tactic(auto, using(crate::proofs::UsedReads::conds_columns))]
 fn push_conds(conds: &[Cond], places: &mut List<ColumnPlace>) -> Result<(), Memory>
-    ensures { OnOk result (places.new ≡ places.old ++ flat_map own_column (flat_map scalars_of conds.now)) }
+    ensures { OnOk result (places.new ≡ places.old
+        ++ flat_map own_column (flat_map scalars_of conds.now)) }
 {
     for cond in conds {
         push_cond(cond, places)?;
@@ -79,7 +80,8 @@ fn push_conds(conds: &[Cond], places: &mut List<ColumnPlace>) -> Result<(), Memo
 /// Adds the columns of the trivial leaves.
 #[tactic(auto, using(crate::proofs::UsedReads::term_columns))]
 fn push_trivial(term: &Term, places: &mut List<ColumnPlace>) -> Result<(), Memory>
-    ensures { OnOk result (places.new ≡ places.old ++ flat_map trivial_column (leaves_of term.now)) }
+    ensures { OnOk result (places.new ≡ places.old
+        ++ flat_map trivial_column (leaves_of term.now)) }
 {
     match term {
         Term::Leaf(leaf) => {
@@ -136,7 +138,10 @@ fn push_table(
     mentioned: &[ColumnPlace],
     used: &mut List<ColumnPlace>,
 ) -> Result<(), Memory>
-    ensures { OnOk result (used.new ≡ used.old ++ filter (λ place. list_any (place_eq place) mentioned.now) (map (λ c. let place : ColumnPlace = record { table = table; column = c } in place) (range_with_len 0 width))) }
+    ensures { OnOk result (used.new ≡ used.old ++ filter
+        (λ place. list_any (place_eq place) mentioned.now) (map
+        (λ c. let place : ColumnPlace = record { table = table; column = c } in
+        place) (range_with_len 0 width))) }
 {
     for column in 0..width {
         let place = ColumnPlace { table, column };
@@ -156,7 +161,9 @@ fn used_among(
 ) -> Result<List<ColumnPlace>, Memory>
     requires tables { length from.now ≤ 8 }
     requires columns { All (λ (table : FromTable). length table.schema.columns ≤ 64) from.now }
-    ensures { IfOk result (λ places. places ≡ filter (λ place. list_any (place_eq place) mentioned.now) (all_places 0 from.now)) }
+    ensures { IfOk result
+        (λ places. places ≡ filter
+        (λ place. list_any (place_eq place) mentioned.now) (all_places 0 from.now)) }
 {
     let mut used = List::new(alloc);
     let mut number = 0;
@@ -171,7 +178,8 @@ fn used_among(
 /// The columns that the outer query speaks of, each once, by table and then by column.
 pub(crate) fn used(alloc: Global, block: &Block, term: &Term) -> Result<List<ColumnPlace>, Memory>
     requires tables { length block.now.from ≤ 8 }
-    requires columns { All (λ (table : FromTable). length table.schema.columns ≤ 64) block.now.from }
+    requires columns { All
+        (λ (table : FromTable). length table.schema.columns ≤ 64) block.now.from }
     ensures { IfOk result (λ places. places ≡ used block.now term.now) }
 {
     let mentioned = mentioned(alloc, block, term)?;

@@ -6,7 +6,8 @@ use Rattle.prefsql_lexer.specs.declared.token.Keyword.TheVariants as word
 use Rattle.prefsql_lexer.specs.declared.token.Symbol.TheVariants as symbol
 use Rattle.prefsql_values.specs.declared.value.CompareOp.{CompareOp}
 use Rattle.query_tree.specs.declared.query.OrderTree.{OrderTree}
-use Rattle.sql_text.specs.declared.named.NamedCond.{NamedCond, And, Or, Not, Compare, Between, OneOf, IsNull, Exists}
+use Rattle.sql_text.specs.declared.named.NamedCond.{NamedCond, And, Or, Not, Compare, Between}
+use Rattle.sql_text.specs.declared.named.NamedCond.{OneOf, IsNull, Exists}
 use Rattle.sql_text.specs.declared.named.NamedScalar.{NamedScalar, Column, Literal, Sum, Case}
 use Rattle.sql_text.specs.declared.named.NamedSelect.{NamedSelect, All, Items}
 use Rattle.sql_text.specs.declared.named.NamedFrom.{NamedFrom, Table, Derived}
@@ -15,7 +16,9 @@ use Rattle.sql_text.specs.declared.named.NamedTerm.{NamedTerm}
 use Rattle.sql_text.specs.declared.named.NamedWhen.{NamedWhen}
 use Rattle.sql_text.specs.declared.named.NamedQuery.{NamedQuery, roll-NamedQuery}
 use Rattle.sql_text.specs.declared.named.NamedStatement.{NamedStatement}
-use Rattle.token_forms.specs.Forms.{GrammarOf, ◌⨟◌, ◌⨟>◌, ◌<⨟◌, ◌<$>◌, ◌∣◌, Named, name, symbol_only, word_at, word_only, separated, comma, in_parens, chain, text_of}
+use Rattle.token_forms.specs.Forms.{GrammarOf, ◌⨟◌, ◌⨟>◌, ◌<⨟◌, ◌<$>◌, ◌∣◌, Named, name}
+use Rattle.token_forms.specs.Forms.{symbol_only, word_at, word_only, separated, comma, in_parens}
+use Rattle.token_forms.specs.Forms.{chain, text_of}
 use Rattle.token_forms.specs.Columns.{column, literal, op}
 use Rattle.token_forms.specs.Phrases.{alias, distinctness, negation, ordering, from as table}
 

@@ -6,7 +6,8 @@ use Rattle.std.specs.List.{flat_map}
 use Rattle.std.specs.Fmt.{signed_decimal}
 use Rattle.prefsql_lexer.specs.declared.token.Token.{Token}
 use Rattle.prefsql_lexer.specs.declared.token.TokenKind.{TokenKind}
-use Rattle.prefsql_lexer.specs.declared.token.TokenKind.TheVariants.{Word, Name, Number, Chars, Symbol as SymbolKind}
+use Rattle.prefsql_lexer.specs.declared.token.TokenKind.TheVariants.{Word, Name, Number, Chars}
+use Rattle.prefsql_lexer.specs.declared.token.TokenKind.TheVariants.{Symbol as SymbolKind}
 use Rattle.prefsql_lexer.specs.Tokens.{spelling, symbol_bytes, in_quotes}
 
 -- a part of the text: one space, or a token

@@ -1,19 +1,24 @@
 -- The text of a query, in the spelling of SQL-92 (ISO/IEC 9075:1992). Which parentheses, spaces and
 -- names are written is this project's own: one line with single spaces, every column with its
 -- correlation name, every item with AS and its name.
-use Rattle.std.specs.Prelude.{ℕ, ◌+◌, ℤ, pos, negsuc, suc, Bool, true, false, List, [], ◌∷◌, ◌++◌, map, Option, Some, None, slice_index_or}
+use Rattle.std.specs.Prelude.{ℕ, ◌+◌, ℤ, pos, negsuc, suc, Bool, true, false, List, [], ◌∷◌, ◌++◌}
+use Rattle.std.specs.Prelude.{map, Option, Some, None, slice_index_or}
 use Rattle.std.specs.List.{flat_map}
 use Rattle.prefsql_lexer.specs.declared.token.Keyword.{Keyword}
 use Rattle.prefsql_lexer.specs.declared.token.Keyword.TheVariants as word
 use Rattle.prefsql_lexer.specs.declared.token.Symbol.{Symbol}
 use Rattle.prefsql_lexer.specs.declared.token.Symbol.TheVariants as symbol
-use Rattle.prefsql_lexer.specs.declared.token.TokenKind.TheVariants.{Word, Name, Number, Chars as CharsKind, Symbol as SymbolKind}
+use Rattle.prefsql_lexer.specs.declared.token.TokenKind.TheVariants.{Word, Name, Number}
+use Rattle.prefsql_lexer.specs.declared.token.TokenKind.TheVariants.{Chars as CharsKind}
+use Rattle.prefsql_lexer.specs.declared.token.TokenKind.TheVariants.{Symbol as SymbolKind}
 use Rattle.prefsql_values.specs.declared.value.CompareOp.{CompareOp}
 use Rattle.prefsql_values.specs.declared.value.CompareOp.TheVariants.{Eq, Ne, Lt, Le, Gt, Ge}
 use Rattle.prefsql_tables.specs.declared.place.SortKey.{SortKey}
 use Rattle.sql_tree.specs.declared.tree.SqlPlace.{SqlPlace}
 use Rattle.sql_tree.specs.declared.tree.SqlCond.{SqlCond, fold-SqlCond}
-use Rattle.sql_tree.specs.declared.tree.SqlCond.TheOpen.{SqlCond-F, SqlScalar-F, SqlSource-F, SqlFrom-F, SqlItem-F, SqlQuery-F, SqlWhen-F, SumTerm-F}
+use Rattle.sql_tree.specs.declared.tree.SqlCond.TheOpen.{SqlCond-F, SqlScalar-F, SqlSource-F}
+use Rattle.sql_tree.specs.declared.tree.SqlCond.TheOpen.{SqlFrom-F, SqlItem-F, SqlQuery-F}
+use Rattle.sql_tree.specs.declared.tree.SqlCond.TheOpen.{SqlWhen-F, SumTerm-F}
 use Rattle.sql_tree.specs.declared.tree.SqlScalar.{SqlScalar, fold-SqlScalar}
 use Rattle.sql_tree.specs.declared.tree.SqlSource.{SqlSource, fold-SqlSource}
 use Rattle.sql_tree.specs.declared.tree.SqlFrom.{SqlFrom, fold-SqlFrom}
@@ -21,7 +26,8 @@ use Rattle.sql_tree.specs.declared.tree.SqlItem.{SqlItem, fold-SqlItem}
 use Rattle.sql_tree.specs.declared.tree.SqlQuery.{SqlQuery, fold-SqlQuery, out-SqlQuery}
 use Rattle.sql_tree.specs.declared.tree.SqlWhen.{SqlWhen, fold-SqlWhen}
 use Rattle.sql_tree.specs.declared.tree.SumTerm.{SumTerm, fold-SumTerm}
-use Rattle.prefsql_values.specs.Nesting.{Standing, alone, in_and, in_or, after_not, wraps_and, wraps_or, wraps_not}
+use Rattle.prefsql_values.specs.Nesting.{Standing, alone, in_and, in_or, after_not, wraps_and}
+use Rattle.prefsql_values.specs.Nesting.{wraps_or, wraps_not}
 use Rattle.sql_text.specs.Pieces.{Piece, space, mark, bytes_of}
 
 -- ---- names in scope

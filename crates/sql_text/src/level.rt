@@ -14,7 +14,8 @@ pub(crate) struct Level<'q> {
     pub(crate) from: &'q [SqlFrom],
 }
 
-/// The levels within a query that has these FROM items and stands in these levels, the innermost first.
+/// The levels within a query that has these FROM items and stands in these levels, the innermost
+/// first.
 pub(crate) fn within<'q>(
     alloc: Global,
     from: &'q [SqlFrom],

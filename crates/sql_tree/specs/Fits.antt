@@ -3,7 +3,9 @@
 use Rattle.std.specs.Prelude.{Option, Some, None, List, [], ◌∷◌, ◌++◌, All}
 use Rattle.std.specs.List.{flat_map}
 use Rattle.prefsql_tables.specs.Table.{Tables, IsTableAt}
-use Rattle.sql_tree.specs.declared.tree.SqlCond.TheOpen.{SqlCond-F, SqlScalar-F, SqlSource-F, SqlFrom-F, SqlItem-F, SqlQuery-F, SqlWhen-F, SumTerm-F}
+use Rattle.sql_tree.specs.declared.tree.SqlCond.TheOpen.{SqlCond-F, SqlScalar-F, SqlSource-F}
+use Rattle.sql_tree.specs.declared.tree.SqlCond.TheOpen.{SqlFrom-F, SqlItem-F, SqlQuery-F}
+use Rattle.sql_tree.specs.declared.tree.SqlCond.TheOpen.{SqlWhen-F, SumTerm-F}
 use Rattle.sql_tree.specs.declared.tree.SqlCond.{SqlCond, fold-SqlCond}
 use Rattle.sql_tree.specs.declared.tree.SqlScalar.{SqlScalar, fold-SqlScalar}
 use Rattle.sql_tree.specs.declared.tree.SqlSource.{SqlSource, fold-SqlSource}

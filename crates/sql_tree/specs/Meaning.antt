@@ -1,7 +1,8 @@
 -- What an SQL query means over a set of tables (ISO/IEC 9075:1992: query specification, search
 -- condition, EXISTS, CASE). Which rows a part sees is this project's own account of its scopes:
 -- those of the query that it stands in, and of the queries round it; a derived table sees none.
-use Rattle.std.specs.Prelude.{pos, neg_ℤ, ◌+ℤ◌, Bool, true, false, if◌then◌else◌, Option, Some, None, List, [], ◌∷◌, map, slice_index_or}
+use Rattle.std.specs.Prelude.{pos, neg_ℤ, ◌+ℤ◌, Bool, true, false, if◌then◌else◌, Option, Some}
+use Rattle.std.specs.Prelude.{None, List, [], ◌∷◌, map, slice_index_or}
 use Rattle.std.specs.List.{filter, list_any}
 use Rattle.prefsql_values.specs.declared.truth.Truth.{Truth}
 use Rattle.prefsql_values.specs.declared.value.Value.{Value}
@@ -16,7 +17,9 @@ use Rattle.prefsql_tables.specs.Product.{product}
 use Rattle.prefsql_tables.specs.Table.{Tables, rows_of, cell_in, no_row}
 use Rattle.sql_tree.specs.declared.tree.SqlPlace.{SqlPlace}
 use Rattle.sql_tree.specs.declared.tree.SqlCond.{SqlCond, fold-SqlCond}
-use Rattle.sql_tree.specs.declared.tree.SqlCond.TheOpen.{SqlCond-F, SqlScalar-F, SqlSource-F, SqlFrom-F, SqlItem-F, SqlQuery-F, SqlWhen-F, SumTerm-F}
+use Rattle.sql_tree.specs.declared.tree.SqlCond.TheOpen.{SqlCond-F, SqlScalar-F, SqlSource-F}
+use Rattle.sql_tree.specs.declared.tree.SqlCond.TheOpen.{SqlFrom-F, SqlItem-F, SqlQuery-F}
+use Rattle.sql_tree.specs.declared.tree.SqlCond.TheOpen.{SqlWhen-F, SumTerm-F}
 use Rattle.sql_tree.specs.declared.tree.SqlScalar.{SqlScalar, fold-SqlScalar}
 use Rattle.sql_tree.specs.declared.tree.SqlSource.{SqlSource, fold-SqlSource}
 use Rattle.sql_tree.specs.declared.tree.SqlFrom.{SqlFrom, fold-SqlFrom}

@@ -1,10 +1,13 @@
 -- How deep the text of a query nests: by parentheses, those round an EXISTS query, a derived table
 -- and the list of an IN among them, and by CASE up to its END. Conditions have as few parentheses
--- as their text allows: AND binds before OR (ISO/IEC 9075:1992), and a part that is of its own kind,
--- or that follows NOT, keeps its own.
+-- as their text allows: AND binds before OR (ISO/IEC 9075:1992), and a part that is of its own
+-- kind, or that follows NOT, keeps its own.
 use Rattle.std.specs.Prelude.{ℕ, ◌+◌, Option, Some, None, map, max}
-use Rattle.prefsql_values.specs.Nesting.{Standing, alone, in_and, in_or, after_not, wraps_and, wraps_or, wraps_not, in_parentheses, deepest}
-use Rattle.sql_tree.specs.declared.tree.SqlCond.TheOpen.{SqlCond-F, SqlScalar-F, SqlSource-F, SqlFrom-F, SqlItem-F, SqlQuery-F, SqlWhen-F, SumTerm-F}
+use Rattle.prefsql_values.specs.Nesting.{Standing, alone, in_and, in_or, after_not, wraps_and}
+use Rattle.prefsql_values.specs.Nesting.{wraps_or, wraps_not, in_parentheses, deepest}
+use Rattle.sql_tree.specs.declared.tree.SqlCond.TheOpen.{SqlCond-F, SqlScalar-F, SqlSource-F}
+use Rattle.sql_tree.specs.declared.tree.SqlCond.TheOpen.{SqlFrom-F, SqlItem-F, SqlQuery-F}
+use Rattle.sql_tree.specs.declared.tree.SqlCond.TheOpen.{SqlWhen-F, SumTerm-F}
 use Rattle.sql_tree.specs.declared.tree.SqlQuery.{SqlQuery, fold-SqlQuery}
 
 -- one layer of each part, with the depths of the parts below it in their place

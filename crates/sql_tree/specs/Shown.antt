@@ -1,6 +1,7 @@
 -- What the columns of a query are to those who see them: their names, their domains, and static
 -- bounds of their numbers. The bounds are this project's own: no sum within them overflows.
-use Rattle.std.specs.Prelude.{ℕ, ◌+◌, ◌-◌, ◌^◌, max, Option, Some, None, List, [], ◌∷◌, map, slice_index_or}
+use Rattle.std.specs.Prelude.{ℕ, ◌+◌, ◌-◌, ◌^◌, max, Option, Some, None, List, [], ◌∷◌, map}
+use Rattle.std.specs.Prelude.{slice_index_or}
 use Rattle.prefsql_values.specs.declared.value.Domain.{Domain}
 use Rattle.prefsql_values.specs.declared.value.Domain.TheVariants.{Integer, Chars}
 use Rattle.prefsql_tables.specs.declared.schema.Column.{Column}

@@ -1,7 +1,8 @@
 -- Which queries are well formed: what is asked of each part, by what it sees (ISO/IEC 9075:1992 for
 -- domains and scopes; names, sizes and bounds are this project's own). Where a query is to be
 -- written too, each column must be told by its names.
-use Rattle.std.specs.Prelude.{ℕ, ℤ, ◌^◌, ◌≤◌, length, Bool, true, false, not, ◌&&◌, IsTrue, nat_eq, nat_le, nat_lt, Option, Some, None, List, [], ◌∷◌, ◌++◌, map, take}
+use Rattle.std.specs.Prelude.{ℕ, ℤ, ◌^◌, ◌≤◌, length, Bool, true, false, not, ◌&&◌, IsTrue, nat_eq}
+use Rattle.std.specs.Prelude.{nat_le, nat_lt, Option, Some, None, List, [], ◌∷◌, ◌++◌, map, take}
 use Rattle.std.specs.List.{count_by, list_all, list_any}
 use Rattle.std.specs.Int.RustNames.{unsigned_abs}
 use Rattle.std.specs.Str.{bytes_eq, chars}
@@ -11,11 +12,15 @@ use Rattle.prefsql_tables.specs.declared.place.SortKey.{SortKey}
 use Rattle.prefsql_tables.specs.Names.{names_of}
 use Rattle.sql_tree.specs.declared.tree.SqlPlace.{SqlPlace}
 use Rattle.sql_tree.specs.declared.tree.SqlCond.{SqlCond, fold-SqlCond}
-use Rattle.sql_tree.specs.declared.tree.SqlCond.TheOpen.{SqlCond-F, SqlScalar-F, SqlSource-F, SqlFrom-F, SqlItem-F, SqlQuery-F, SqlWhen-F, SumTerm-F}
+use Rattle.sql_tree.specs.declared.tree.SqlCond.TheOpen.{SqlCond-F, SqlScalar-F, SqlSource-F}
+use Rattle.sql_tree.specs.declared.tree.SqlCond.TheOpen.{SqlFrom-F, SqlItem-F, SqlQuery-F}
+use Rattle.sql_tree.specs.declared.tree.SqlCond.TheOpen.{SqlWhen-F, SumTerm-F}
 use Rattle.sql_tree.specs.declared.tree.SqlScalar.{SqlScalar, fold-SqlScalar}
 use Rattle.sql_tree.specs.declared.tree.SqlQuery.{SqlQuery, fold-SqlQuery}
 use Rattle.sql_tree.specs.Nesting.{nesting}
-use Rattle.sql_tree.specs.Shown.{Shape, ShownColumn, ShownItem, View, choice_shape, column_at, item_at, items_at, number_shape, sum_bound, table_columns, text_shape}
+use Rattle.sql_tree.specs.Shown.{Shape, ShownColumn, ShownItem, View, choice_shape, column_at}
+use Rattle.sql_tree.specs.Shown.{item_at, items_at, number_shape, sum_bound, table_columns}
+use Rattle.sql_tree.specs.Shown.{text_shape}
 
 -- ---- small tests
 

@@ -11,8 +11,8 @@ use prefsql_values::Boxed;
 
 impl SqlQuery {
     /// Whether each table that the query names, at every depth, stands in the set at its index with
-    /// its name and its columns: in FROM, in derived tables, in EXISTS, and in the conditions inside
-    /// CASE. The rule is this project's own.
+    /// its name and its columns: in FROM, in derived tables, in EXISTS, and in the conditions
+    /// inside CASE. The rule is this project's own.
     pub fn fits(&self, tables: &TableSet) -> bool
         ensures { IsTrue result ↔ FitsTables tables.now self.now }
     {

@@ -9,7 +9,11 @@ use std::test::Fail;
 
 /// One column of numbers.
 fn schema(alloc: Global, column: &str) -> Result<Schema, Memory>
-    ensures { IfOk result (λ schema. schema.columns ≡ record { name = column.now; domain = Integer; nullable = true } ∷ []) }
+    ensures { IfOk result (λ schema. schema.columns ≡ record {
+      name = column.now;
+      domain = Integer;
+      nullable = true;
+    } ∷ []) }
 {
     let name = Text::of(alloc, column)?;
     let mut columns = List::new(alloc);

@@ -18,7 +18,8 @@ filled_value Chars field = Str field
 
 -- what a field without a fault holds in a column
 abbrev pub cell_value : Column → List ℕ → Value
-cell_value column field = if is_empty field then empty_value column else filled_value column.domain field
+cell_value column field = if is_empty field then empty_value column
+    else filled_value column.domain field
 
 abbrev pub empty_codes : Domain → Bool → List ℕ
 empty_codes Integer nullable = when (not nullable) 506
@@ -28,8 +29,10 @@ abbrev pub filled_codes : Domain → List ℕ → List ℕ
 filled_codes Integer field = number_codes field
 filled_codes Chars field = []
 
--- the codes of the faults of a field in a column: first that it is no text, and then in ascending order
+-- the codes of the faults of a field in a column: first that it is no text, and then in ascending
+-- order
 abbrev pub cell_codes : Column → List ℕ → List ℕ
 cell_codes column field =
     when (not (is_text field)) 507
-    ++ (if is_empty field then empty_codes column.domain column.nullable else filled_codes column.domain field)
+    ++ (if is_empty field then empty_codes column.domain column.nullable
+    else filled_codes column.domain field)

@@ -15,7 +15,8 @@ is_empty field = length field == 0
 
 -- an optional sign and digits
 abbrev pub is_numeral : List ℕ → Bool
-is_numeral field = not (is_empty (without_leading_sign field)) && list_all is_ascii_digit (without_leading_sign field)
+is_numeral field = not (is_empty (without_leading_sign field))
+    && list_all is_ascii_digit (without_leading_sign field)
 
 -- as written, so leading zeros count
 abbrev pub digit_count : List ℕ → ℕ

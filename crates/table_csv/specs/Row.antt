@@ -14,10 +14,12 @@ cells_faults number place (column ∷ columns) [] = []
 cells_faults number place (column ∷ columns) (field ∷ fields) =
     spots number place (cell_codes column field) ++ cells_faults number (place + 1) columns fields
 
--- the faults of the row in the record with this number, in their order. Record 100,002 holds the 100,001st row
+-- the faults of the row in the record with this number, in their order. Record 100,002 holds the
+-- 100,001st row
 abbrev pub row_faults : List Column → ℕ → List (List ℕ) → List TableSpot
 row_faults columns number fields =
-    spots number 0 (when (not (length fields == length columns)) 503 ++ when (nat_lt 100001 number) 508)
+    spots number 0 (when (not (length fields == length columns)) 503
+    ++ when (nat_lt 100001 number) 508)
     ++ cells_faults number 1 columns fields
 
 -- a value for each column

@@ -1,8 +1,10 @@
 -- A reader of a table file, and the records that it has not given yet.
-use Rattle.std.specs.Prelude.{◌≡◌, ◌+◌, ◌≤◌, ℕ, Bool, true, false, List, [], ◌∷◌, length, Option, Some, unwrap_or}
+use Rattle.std.specs.Prelude.{◌≡◌, ◌+◌, ◌≤◌, ℕ, Bool, true, false, List, [], ◌∷◌, length, Option}
+use Rattle.std.specs.Prelude.{Some, unwrap_or}
 use Rattle.std.specs.Borrow.{Bor}
 use Rattle.csv.specs.Machine.{ends_at_end}
-use Rattle.csv.specs.Reading.{Ready, default_config, is_flexible, reader_config, reader_state, reader_trim, records_from, source_of}
+use Rattle.csv.specs.Reading.{Ready, default_config, is_flexible, reader_config, reader_state}
+use Rattle.csv.specs.Reading.{reader_trim, records_from, source_of}
 use Rattle.csv.specs.declared.parser.State.{State}
 use Rattle.csv.specs.declared.reader.Reader.{Reader}
 use Rattle.csv.specs.declared.reader.Trim.TheVariants as trim
@@ -18,8 +20,8 @@ records_after state bytes = records_from default_config (length bytes + 1) state
 abbrev pub records_left : Reader (Bor (List ℕ)) → List (List (List ℕ))
 records_left reader = records_after (reader_state reader) (unwrap_or (bytes_left reader) [])
 
--- the reader takes records of any number of fields, else reads by the defaults of csv, and stands between two records of
--- known bytes
+-- the reader takes records of any number of fields, else reads by the defaults of csv, and stands
+-- between two records of known bytes
 pub record IsBetween (reader : Reader (Bor (List ℕ))) : Type 0 where
   pub trim : reader_trim reader ≡ trim.None
   pub ready : Ready reader
@@ -31,5 +33,6 @@ pub record IsBetween (reader : Reader (Bor (List ℕ))) : Type 0 where
 
 -- a record with these fields was left, or none was
 abbrev pub ReadsNext : Reader (Bor (List ℕ)) → Reader (Bor (List ℕ)) → Bool → List (List ℕ) → Type 0
-ReadsNext old new true fields = IsBetween new × (records_left old ≡ fields ∷ records_left new) × (1 ≤ length fields)
+ReadsNext old new true fields = IsBetween new × (records_left old ≡ fields ∷ records_left new)
+    × (1 ≤ length fields)
 ReadsNext old new false fields = records_left old ≡ []

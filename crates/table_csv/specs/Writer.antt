@@ -2,7 +2,8 @@
 use Rattle.std.specs.Prelude.{◌≡◌, ℕ, List, Option, Some, true, false}
 use Rattle.std.specs.declared.alloc.Global.{Global}
 use Rattle.std.specs.declared.vec.Vec.{Vec}
-use Rattle.csv.specs.Writing.{default_writer, fields_written, has_written, text_written, with_flexible, writer_setup}
+use Rattle.csv.specs.Writing.{default_writer, fields_written, has_written, text_written}
+use Rattle.csv.specs.Writing.{with_flexible, writer_setup}
 use Rattle.csv.specs.declared.writer.Writer.{Writer}
 
 abbrev pub text_so_far : Writer (Vec ℕ Global) → Option (List ℕ)

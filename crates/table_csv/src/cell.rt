@@ -21,7 +21,8 @@ pub(crate) fn read_cell(
     at_record: u32,
     at_field: u32,
 ) -> Result<Value, TableFault>
-    ensures { Gives (unless_faulty (spots at_record at_field (cell_codes column.now field.now)) (cell_value column.now field.now)) result }
+    ensures { Gives (unless_faulty (spots at_record at_field (cell_codes column.now field.now))
+        (cell_value column.now field.now)) result }
 {
     if field.is_empty() {
         return read_empty(alloc, column, at_record, at_field);
@@ -32,9 +33,11 @@ pub(crate) fn read_cell(
     }
 }
 
-/// The value of a field that is a number in a column of numbers. It is None for every other field, which `read_cell` reads.
+/// The value of a field that is a number in a column of numbers. It is None for every other field,
+/// which `read_cell` reads.
 pub(crate) fn number_cell(column: &Column, field: &[u8]) -> Option<Value>
-    ensures { IfSome result (λ cell. (cell_codes column.now field.now ≡ []) × (cell_value column.now field.now ≡ cell)) }
+    ensures { IfSome result (λ cell. (cell_codes column.now field.now ≡ [])
+        × (cell_value column.now field.now ≡ cell)) }
 {
     match column.domain {
         Domain::Integer => match number_of(field) {
@@ -52,7 +55,9 @@ fn read_empty(
     at_record: u32,
     at_field: u32,
 ) -> Result<Value, TableFault>
-    ensures { Gives (unless_faulty (spots at_record at_field (empty_codes column.now.domain column.now.nullable)) (empty_value column.now)) result }
+    ensures { Gives (unless_faulty
+        (spots at_record at_field (empty_codes column.now.domain column.now.nullable))
+        (empty_value column.now)) result }
 {
     if column.nullable {
         return Ok(Value::Null);
@@ -63,9 +68,11 @@ fn read_empty(
     }
 }
 
-/// The number of a field. A field that is a number is a text too, so only another one is tested for it.
+/// The number of a field. A field that is a number is a text too, so only another one is tested for
+/// it.
 fn read_number(field: &[u8], at_record: u32, at_field: u32) -> Result<Value, TableFault>
-    ensures { Gives (unless_faulty (spots at_record at_field (when (not (is_text field.now)) 507 ++ number_codes field.now)) (value.Num (number_in field.now))) result }
+    ensures { Gives (unless_faulty (spots at_record at_field (when (not (is_text field.now)) 507
+        ++ number_codes field.now)) (value.Num (number_in field.now))) result }
 {
     match number_of(field) {
         Ok(n) => Ok(Value::Num(i128::from(n))),
@@ -83,7 +90,8 @@ fn read_text(
     at_record: u32,
     at_field: u32,
 ) -> Result<Value, TableFault>
-    ensures { Gives (unless_faulty (spots at_record at_field (when (not (is_text field.now)) 507)) (value.Str field.now)) result }
+    ensures { Gives (unless_faulty (spots at_record at_field (when (not (is_text field.now)) 507))
+        (value.Str field.now)) result }
 {
     let Some(text) = text_of(field) else {
         return Err(bad(NO_TEXT, at_record, at_field));

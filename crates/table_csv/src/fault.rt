@@ -4,8 +4,8 @@ ghost use Rattle.table_csv.specs.declared.fault.TableFault.TheVariants as fault;
 use prefsql_values::Memory;
 use std::alloc::{AllocError, AllocFailed};
 
-/// Where a table file has a fault, and which. Records are numbered from 1, the header first, and fields from 1. Field 0
-/// is the whole record, and record 0 the whole file.
+/// Where a table file has a fault, and which. Records are numbered from 1, the header first, and
+/// fields from 1. Field 0 is the whole record, and record 0 the whole file.
 #[derive(Clone, Copy, Debug, PartialEq, Eq)]
 pub struct TableSpot {
     /// 501 to 510, which the product writes as E501 to E510.
@@ -53,7 +53,11 @@ impl<T: Drop> From<AllocFailed<T>> for TableFault {
 
 /// A fault with this code at this place.
 pub(crate) fn bad(code: u16, at_record: u32, at_field: u32) -> TableFault
-    ensures { result ≡ fault.Bad (record { code = code; at_record = at_record; at_field = at_field }) }
+    ensures { result ≡ fault.Bad (record {
+      code = code;
+      at_record = at_record;
+      at_field = at_field;
+    }) }
 {
     TableFault::Bad(TableSpot {
         code,

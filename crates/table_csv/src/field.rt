@@ -15,7 +15,8 @@ const MOST_DIGITS: usize = 18;
 
 /// The field as a text. It is None where the field is not UTF-8 or holds the byte 00.
 pub(crate) fn text_of(field: &[u8]) -> Option<&str>
-    ensures { MatchOption result (is_text field.now ≡ false) (λ text. (is_text field.now ≡ true) × (text.now ≡ field.now)) }
+    ensures { MatchOption result (is_text field.now ≡ false)
+        (λ text. (is_text field.now ≡ true) × (text.now ≡ field.now)) }
 {
     let Ok(text) = str::from_utf8(field) else {
         return None;
@@ -84,7 +85,8 @@ fn code_of_many(bytes: &[u8]) -> u16
 fn value_of(bytes: &[u8]) -> Option<u64>
     requires few { length bytes.now ≤ 18 }
     ensures value { MatchOption result (list_all is_ascii_digit bytes.now ≡ false)
-        (λ value. (list_all is_ascii_digit bytes.now ≡ true) × (value ≡ digits_value 10 bytes.now)) }
+        (λ value. (list_all is_ascii_digit bytes.now ≡ true)
+        × (value ≡ digits_value 10 bytes.now)) }
     ensures small { IfSome result (λ value. value < 10 ^ 18) }
 {
     let mut value = 0;

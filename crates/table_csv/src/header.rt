@@ -22,7 +22,8 @@ const MOST_FURTHER: usize = 63;
 
 /// The columns of a header, or its first fault.
 pub(crate) fn read_header(alloc: Global, fields: &ByteRecord) -> Result<Schema, TableFault>
-    ensures { Gives (unless_faulty (spec.header_faults (fields_of fields.now)) (spec.schema_of (fields_of fields.now))) result }
+    ensures { Gives (unless_faulty (spec.header_faults (fields_of fields.now))
+        (spec.schema_of (fields_of fields.now))) result }
 {
     if fields.len() > MOST_COLUMNS {
         return Err(bad(TOO_MANY_COLUMNS, 1, 0));
@@ -38,7 +39,8 @@ pub(crate) fn read_header(alloc: Global, fields: &ByteRecord) -> Result<Schema, 
 /// The column of a header field behind these columns, or the first fault of the field.
 fn read_column(alloc: Global, earlier: &[Column], field: &[u8]) -> Result<Column, TableFault>
     requires { length earlier.now ≤ 64 }
-    ensures { Gives (unless_faulty (spots 1 (length earlier.now + 1) (spec.header_codes earlier.now field.now)) (spec.column_of field.now)) result }
+    ensures { Gives (unless_faulty (spots 1 (length earlier.now + 1)
+        (spec.header_codes earlier.now field.now)) (spec.column_of field.now)) result }
 {
     let at_field = earlier.len() as u32 + 1;
     let Some(text) = text_of(field) else {
@@ -62,7 +64,8 @@ fn is_taken(name: &str, columns: &[Column]) -> bool
 
 /// The column that a header field states. It is None where the field has not the shape of one.
 fn column_in(alloc: Global, field: &str) -> Result<Option<Column>, Memory>
-    ensures { IfOk result (λ column. column ≡ (if spec.has_column_shape (spec.words_in field.now) then Some (spec.column_of field.now) else None)) }
+    ensures { IfOk result (λ column. column ≡ (if spec.has_column_shape (spec.words_in field.now)
+        then Some (spec.column_of field.now) else None)) }
 {
     let words = words_in(alloc, field)?;
     let [name, kind, ending @ ..] = words.as_slice() else {
@@ -110,7 +113,11 @@ fn column_of(
     nullable: bool,
 ) -> Result<Option<Column>, Memory>
     ensures { IfOk result (λ column. column ≡ (if spec.is_name name.now && spec.is_type kind.now
-        then Some (record { name = str_to_ascii_uppercase name.now; domain = spec.domain_of kind.now; nullable = nullable }) else None)) }
+        then Some (record {
+          name = str_to_ascii_uppercase name.now;
+          domain = spec.domain_of kind.now;
+          nullable = nullable;
+        }) else None)) }
 {
     if !is_name(name.as_bytes()) {
         return Ok(None);

@@ -15,8 +15,9 @@ use prefsql_tables::Table;
 use prefsql_values::Memory;
 use std::alloc::Global;
 
-/// Reads a table file: the columns of its header and a row of each further record. The answer is the table, or the
-/// first fault of the file in the order of its records and of their fields, or want of memory.
+/// Reads a table file: the columns of its header and a row of each further record. The answer is
+/// the table, or the first fault of the file in the order of its records and of their fields, or
+/// want of memory.
 pub fn read_table(alloc: Global, bytes: &[u8]) -> Result<Table, TableFault>
     ensures { Gives (file_table bytes.now) result }
 {
@@ -47,8 +48,9 @@ fn records_of(alloc: Global, bytes: &[u8]) -> Reader<&[u8]>
         .from_reader(alloc, bytes)
 }
 
-/// The next record, and whether there was one. A record may have any number of fields and holds any bytes, so that the
-/// reader refuses none. No read of bytes in memory fails, and one that did would be answered as want of memory.
+/// The next record, and whether there was one. A record may have any number of fields and holds any
+/// bytes, so that the reader refuses none. No read of bytes in memory fails, and one that did would
+/// be answered as want of memory.
 fn read_record(reader: &mut Reader<&[u8]>, fields: &mut ByteRecord) -> Result<bool, Memory>
     requires { IsBetween reader.old }
     ensures { IfOk result (λ found. ReadsNext reader.old reader.new found (fields_of fields.new)) }

@@ -24,7 +24,8 @@ pub(crate) fn read_row(
     fields: &ByteRecord,
 ) -> Result<AnswerRow, TableFault>
     requires { length columns.now ≤ 64 }
-    ensures { Gives (unless_faulty (row_faults columns.now at_record (fields_of fields.now)) (row_of columns.now (fields_of fields.now))) result }
+    ensures { Gives (unless_faulty (row_faults columns.now at_record (fields_of fields.now))
+        (row_of columns.now (fields_of fields.now))) result }
 {
     if fields.len() != columns.len() {
         return Err(bad(FIELD_COUNT, at_record, 0));

@@ -12,8 +12,8 @@ use prefsql_tables::Answer;
 use prefsql_values::{Memory, Text, Value};
 use std::alloc::{AllocError, Global};
 
-/// The text of an answer: a line of its names and a line of each row, as `csv` writes records by default, and then one
-/// empty line. NULL is an empty field. Its only refusal is want of memory.
+/// The text of an answer: a line of its names and a line of each row, as `csv` writes records by
+/// default, and then one empty line. NULL is an empty field. Its only refusal is want of memory.
 pub fn answer_text(alloc: Global, answer: &Answer) -> Result<Vec<u8>, Memory>
     ensures { IfOk result (λ text. text.items ≡ text_of_answer answer.now) }
 {
@@ -59,7 +59,8 @@ fn set_values(fields: &mut ByteRecord, values: &[Value]) -> Result<(), AllocErro
 /// Adds a value to the record.
 fn push_value(fields: &mut ByteRecord, value: &Value) -> Result<(), AllocError>
     requires { partial_of fields.old ≡ [] }
-    ensures fields { OnOk result (fields_of fields.new ≡ fields_of fields.old ++ value_text value.now ∷ []) }
+    ensures fields { OnOk result (fields_of fields.new ≡ fields_of fields.old
+        ++ value_text value.now ∷ []) }
     ensures partial { OnOk result (partial_of fields.new ≡ []) }
 {
     match value {

@@ -1,4 +1,5 @@
--- The classes by which a grammar tells tokens apart: the kind of a token, and of a symbol or a reserved word which one it is.
+-- The classes by which a grammar tells tokens apart: the kind of a token, and of a symbol or a
+-- reserved word which one it is.
 use Rattle.std.specs.Prelude.{ℕ, ℤ, pos, List, []}
 use Rattle.prefsql_lexer.specs.declared.token.Keyword.{Keyword}
 use Rattle.prefsql_lexer.specs.declared.token.Keyword.TheVariants as word

@@ -1,4 +1,5 @@
--- Columns, literals, operators and order items: this project's own profile of SQL-92 (ISO/IEC 9075:1992).
+-- Columns, literals, operators and order items: this project's own profile of SQL-92 (ISO/IEC
+-- 9075:1992).
 use Rattle.std.specs.Prelude.{ℕ, Bool, true, false, List, Option, Some, None, ℤ, neg_ℤ}
 use Rattle.grammar_forms.specs.Form.{option}
 use Rattle.prefsql_lexer.specs.declared.token.Keyword.TheVariants as word
@@ -12,7 +13,8 @@ use Rattle.query_tree.specs.declared.name.LiteralTree.{LiteralTree}
 use Rattle.query_tree.specs.declared.query.OrderName.{OrderName}
 use Rattle.query_tree.specs.declared.query.OrderName.TheVariants as order_name
 use Rattle.query_tree.specs.declared.query.OrderTree.{OrderTree}
-use Rattle.token_forms.specs.Forms.{GrammarOf, ◌⨟◌, ◌⨟>◌, ◌<$>◌, ◌∣◌, Named, name, number, chars, symbol_at, symbol_only, word_only, separated, comma, text_of}
+use Rattle.token_forms.specs.Forms.{GrammarOf, ◌⨟◌, ◌⨟>◌, ◌<$>◌, ◌∣◌, Named, name, number, chars}
+use Rattle.token_forms.specs.Forms.{symbol_at, symbol_only, word_only, separated, comma, text_of}
 
 -- The place of a column is that of its first identifier.
 abbrev pub column_tree : Named × Option Named → NameTree
@@ -34,7 +36,8 @@ sign = (λ at. (false, at)) <$> symbol_at symbol.Plus ∣ (λ at. (true, at)) <$
 unfoldable pub optional_sign : {Rule : Type 0 → Type 1} → GrammarOf Rule (Option (Bool × ℕ))
 optional_sign = option sign
 
--- A literal with a minus is the negative number. A sign belongs to its literal, whose place is then that of the sign.
+-- A literal with a minus is the negative number. A sign belongs to its literal, whose place is then
+-- that of the sign.
 abbrev pub number_literal : Option (Bool × ℕ) × (ℤ × ℕ) → LiteralTree
 number_literal (None, n) = record { value = literal_value.Num n.0; at = n.1 }
 number_literal (Some (false, at), n) = record { value = literal_value.Num n.0; at = at }
@@ -61,8 +64,10 @@ compares s o = (λ _. o) <$> symbol_only s
 -- op := "=" | "<>" | "<" | "<=" | ">" | ">="
 unfoldable pub op : {Rule : Type 0 → Type 1} → GrammarOf Rule CompareOp
 op =
-    compares symbol.Equal compare_op.Eq ∣ compares symbol.NotEqual compare_op.Ne ∣ compares symbol.Less compare_op.Lt
-    ∣ compares symbol.LessEqual compare_op.Le ∣ compares symbol.Greater compare_op.Gt ∣ compares symbol.GreaterEqual compare_op.Ge
+    compares symbol.Equal compare_op.Eq ∣ compares symbol.NotEqual compare_op.Ne
+    ∣ compares symbol.Less compare_op.Lt
+    ∣ compares symbol.LessEqual compare_op.Le ∣ compares symbol.Greater compare_op.Gt
+    ∣ compares symbol.GreaterEqual compare_op.Ge
 
 -- ---- order items
 
@@ -79,7 +84,8 @@ if_written (Some chosen) = chosen
 
 -- [ASC | DESC], whether it is DESC
 unfoldable pub direction : {Rule : Type 0 → Type 1} → GrammarOf Rule Bool
-direction = if_written <$> option ((λ _. false) <$> word_only word.Asc ∣ (λ _. true) <$> word_only word.Desc)
+direction = if_written <$> option ((λ _. false) <$> word_only word.Asc
+    ∣ (λ _. true) <$> word_only word.Desc)
 
 abbrev pub order_tree : (OrderName × ℕ) × Bool → OrderTree
 order_tree p = record { key = p.0.0; descending = p.1; at = p.0.1 }

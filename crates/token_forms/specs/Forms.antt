@@ -1,12 +1,13 @@
--- The words in which the grammars of scripts are written, for any names of productions: tokens by class, sequences, choices and
--- lists.
+-- The words in which the grammars of scripts are written, for any names of productions: tokens by
+-- class, sequences, choices and lists.
 use Rattle.std.specs.Prelude.{ℕ, Bool, true, false, List, [], ◌∷◌, Option, Some, None, ℤ}
 use Rattle.grammar_forms.specs.Form.{Form, token, both, either, many, map}
 use Rattle.prefsql_lexer.specs.declared.token.Keyword.{Keyword}
 use Rattle.prefsql_lexer.specs.declared.token.Symbol.{Symbol}
 use Rattle.prefsql_lexer.specs.declared.token.Symbol.TheVariants as symbol
 use Rattle.prefsql_lexer.specs.declared.token.Token.{Token}
-use Rattle.token_forms.specs.Classes.{symbol_class, word_class, name_class, number_class, chars_class, text_in, number_in}
+use Rattle.token_forms.specs.Classes.{symbol_class, word_class, name_class, number_class}
+use Rattle.token_forms.specs.Classes.{chars_class, text_in, number_in}
 
 -- the grammars whose productions have these names
 abbrev pub GrammarOf : (Type 0 → Type 1) → Type 0 → Type 1
@@ -18,22 +19,27 @@ infixr 12 ◌<⨟◌
 infixr 11 ◌<$>◌
 infixr 10 ◌∣◌
 -- one after the other, with both values
-abbrev pub ◌⨟◌ : {Rule : Type 0 → Type 1} {A B : Type 0} → GrammarOf Rule A → GrammarOf Rule B → GrammarOf Rule (A × B)
+abbrev pub ◌⨟◌ : {Rule : Type 0 → Type 1} {A B : Type 0} → GrammarOf Rule A → GrammarOf Rule B
+    → GrammarOf Rule (A × B)
 f ⨟ g = both f g
 
 -- a choice
-abbrev pub ◌∣◌ : {Rule : Type 0 → Type 1} {A : Type 0} → GrammarOf Rule A → GrammarOf Rule A → GrammarOf Rule A
+abbrev pub ◌∣◌ : {Rule : Type 0 → Type 1} {A : Type 0} → GrammarOf Rule A → GrammarOf Rule A
+    → GrammarOf Rule A
 f ∣ g = either f g
 
 -- the same tokens with another value
-abbrev pub ◌<$>◌ : {Rule : Type 0 → Type 1} {A B : Type 0} → (A → B) → GrammarOf Rule A → GrammarOf Rule B
+abbrev pub ◌<$>◌ : {Rule : Type 0 → Type 1} {A B : Type 0} → (A → B) → GrammarOf Rule A
+    → GrammarOf Rule B
 h <$> f = map h f
 
 -- one after the other, with the value of the second or of the first
-abbrev pub ◌⨟>◌ : {Rule : Type 0 → Type 1} {A B : Type 0} → GrammarOf Rule A → GrammarOf Rule B → GrammarOf Rule B
+abbrev pub ◌⨟>◌ : {Rule : Type 0 → Type 1} {A B : Type 0} → GrammarOf Rule A → GrammarOf Rule B
+    → GrammarOf Rule B
 f ⨟> g = (λ p. p.1) <$> f ⨟ g
 
-abbrev pub ◌<⨟◌ : {Rule : Type 0 → Type 1} {A B : Type 0} → GrammarOf Rule A → GrammarOf Rule B → GrammarOf Rule A
+abbrev pub ◌<⨟◌ : {Rule : Type 0 → Type 1} {A B : Type 0} → GrammarOf Rule A → GrammarOf Rule B
+    → GrammarOf Rule A
 f <⨟ g = (λ p. p.0) <$> f ⨟ g
 
 -- ---- tokens, with their places
@@ -68,7 +74,8 @@ chars = token chars_class (λ t. (text_in t.kind, t.start))
 -- ---- lists
 
 -- f { separator f }
-abbrev pub separated : {Rule : Type 0 → Type 1} {A : Type 0} → GrammarOf Rule (Unit {0}) → GrammarOf Rule A → GrammarOf Rule (List A)
+abbrev pub separated : {Rule : Type 0 → Type 1} {A : Type 0} → GrammarOf Rule (Unit {0})
+    → GrammarOf Rule A → GrammarOf Rule (List A)
 separated s f = (λ p. p.0 ∷ p.1) <$> f ⨟ many (s ⨟> f)
 
 abbrev pub comma : {Rule : Type 0 → Type 1} → GrammarOf Rule (Unit {0})

@@ -1,10 +1,12 @@
--- Phrases in which nothing nests, for any names of productions: this project's own profile of SQL-92 (ISO/IEC 9075:1992).
+-- Phrases in which nothing nests, for any names of productions: this project's own profile of
+-- SQL-92 (ISO/IEC 9075:1992).
 use Rattle.std.specs.Prelude.{Bool, List, Option, Some, None}
 use Rattle.grammar_forms.specs.Form.{option}
 use Rattle.prefsql_lexer.specs.declared.token.Keyword.TheVariants as word
 use Rattle.query_tree.specs.declared.query.FromTree.{FromTree}
 use Rattle.query_tree.specs.declared.query.OrderTree.{OrderTree}
-use Rattle.token_forms.specs.Forms.{GrammarOf, ◌⨟◌, ◌⨟>◌, ◌<$>◌, Named, name, word_only, separated, comma, present, or_none}
+use Rattle.token_forms.specs.Forms.{GrammarOf, ◌⨟◌, ◌⨟>◌, ◌<$>◌, Named, name, word_only, separated}
+use Rattle.token_forms.specs.Forms.{comma, present, or_none}
 use Rattle.token_forms.specs.Columns.{orders}
 
 -- [[AS] name]

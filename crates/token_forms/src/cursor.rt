@@ -32,7 +32,8 @@ impl From<Memory> for Stop {
     }
 }
 
-/// The tokens that are left. After a fault it stands at the first token that fits nowhere. A contract sees it as their list.
+/// The tokens that are left. After a fault it stands at the first token that fits nowhere. A
+/// contract sees it as their list.
 #[derive(Drop)]
 pub struct Cursor<'a> {
     pub(crate) alloc: Global,
@@ -114,7 +115,8 @@ impl<'a> Cursor<'a> {
     /// The next token, if it is of this class.
     fn take(&mut self, class: TokenClass) -> Option<&'a Token>
         ensures { MatchOption result
-            ((begins spec.class (spec.number_of class ∷ []) self.old ≡ false) × (self.new ≡ self.old))
+            ((begins spec.class (spec.number_of class ∷ []) self.old ≡ false)
+            × (self.new ≡ self.old))
             (λ t. (self.old ≡ t.now ∷ self.new) × (spec.class t.now ≡ spec.number_of class)) }
     {
         let (first, rest) = self.tokens.split_first()?;
@@ -127,7 +129,8 @@ impl<'a> Cursor<'a> {
 
     /// Takes the symbol. `Stop::Fault` where another token comes next, or none.
     pub fn symbol(&mut self, symbol: Symbol) -> Result<(), Stop>
-        ensures { Reads (read_token spec.class (spec.symbol_class symbol) (λ _. tt) self.old) result self.new }
+        ensures { Reads (read_token spec.class (spec.symbol_class symbol)
+            (λ _. tt) self.old) result self.new }
     {
         match self.take(TokenClass::Symbol(symbol)) {
             Some(_) => Ok(()),
@@ -137,7 +140,8 @@ impl<'a> Cursor<'a> {
 
     /// Takes the reserved word. `Stop::Fault` where another token comes next, or none.
     pub fn word(&mut self, word: Keyword) -> Result<(), Stop>
-        ensures { Reads (read_token spec.class (spec.word_class word) (λ _. tt) self.old) result self.new }
+        ensures { Reads (read_token spec.class (spec.word_class word)
+            (λ _. tt) self.old) result self.new }
     {
         match self.take(TokenClass::Word(word)) {
             Some(_) => Ok(()),
@@ -147,7 +151,8 @@ impl<'a> Cursor<'a> {
 
     /// The place of the symbol.
     pub fn symbol_at(&mut self, symbol: Symbol) -> Result<u32, Stop>
-        ensures { Reads (read_token spec.class (spec.symbol_class symbol) (λ t. t.start) self.old) result self.new }
+        ensures { Reads (read_token spec.class (spec.symbol_class symbol)
+            (λ t. t.start) self.old) result self.new }
     {
         match self.take(TokenClass::Symbol(symbol)) {
             Some(token) => Ok(token.start),
@@ -157,7 +162,8 @@ impl<'a> Cursor<'a> {
 
     /// The place of the reserved word, which is taken.
     pub fn word_at(&mut self, word: Keyword) -> Result<u32, Stop>
-        ensures { Reads (read_token spec.class (spec.word_class word) (λ t. t.start) self.old) result self.new }
+        ensures { Reads (read_token spec.class (spec.word_class word)
+            (λ t. t.start) self.old) result self.new }
     {
         match self.take(TokenClass::Word(word)) {
             Some(token) => Ok(token.start),
@@ -181,7 +187,8 @@ impl<'a> Cursor<'a> {
 
     /// The text of a name, and its place.
     pub fn name(&mut self) -> Result<(Text, u32), Stop>
-        ensures { Reads (read_token spec.class spec.name_class (λ t. (spec.text_in t.kind, t.start)) self.old) result self.new }
+        ensures { Reads (read_token spec.class spec.name_class
+            (λ t. (spec.text_in t.kind, t.start)) self.old) result self.new }
     {
         let alloc = self.alloc;
         let Some(token) = self.take(TokenClass::Name) else {
@@ -192,7 +199,8 @@ impl<'a> Cursor<'a> {
 
     /// The text of a quoted text, and its place.
     pub fn chars(&mut self) -> Result<(Text, u32), Stop>
-        ensures { Reads (read_token spec.class spec.chars_class (λ t. (spec.text_in t.kind, t.start)) self.old) result self.new }
+        ensures { Reads (read_token spec.class spec.chars_class
+            (λ t. (spec.text_in t.kind, t.start)) self.old) result self.new }
     {
         let alloc = self.alloc;
         let Some(token) = self.take(TokenClass::Text) else {
@@ -203,7 +211,8 @@ impl<'a> Cursor<'a> {
 
     /// The value of a number without a sign, and its place.
     pub fn number(&mut self) -> Result<(i64, u32), Stop>
-        ensures { Reads (read_token spec.class spec.number_class (λ t. (spec.number_in t.kind, t.start)) self.old) result self.new }
+        ensures { Reads (read_token spec.class spec.number_class
+            (λ t. (spec.number_in t.kind, t.start)) self.old) result self.new }
     {
         match self.take(TokenClass::Number) {
             Some(token) => Ok((number(token), token.start)),

@@ -1,4 +1,5 @@
-//! Values that are kept while more is read. Where what is read after them is a fault, they are let go here, once for every type.
+//! Values that are kept while more is read. Where what is read after them is a fault, they are let
+//! go here, once for every type.
 
 ghost use Rattle.token_forms.specs.Reads.{IsPair, IsPushed};
 

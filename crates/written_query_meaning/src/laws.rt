@@ -6,8 +6,8 @@ ghost use Rattle.query_meaning.specs.Valid.{IsValidBlock};
 use pref_terms::Term;
 use query_meaning::Block;
 
-/// The law that the rows of the auxiliary query are the candidates in order, each with its used values
-/// and what each leaf ranks it by.
+/// The law that the rows of the auxiliary query are the candidates in order, each with its used
+/// values and what each leaf ranks it by.
 pub fn holds_candidates(block: &Block, term: &Term)
     requires valid { IsValidBlock block.now }
     requires preferring { block.now.term ≡ Some term.now }

@@ -1,7 +1,9 @@
-//! What the SQL query of a block means: the block's answer, over every set of tables that the block fits.
+//! What the SQL query of a block means: the block's answer, over every set of tables that the block
+//! fits.
 //!
-//! The crate has no code that runs, and its four laws are the steps of the proof: the rows of the auxiliary query, that
-//! no rank in them is NULL, the conditions on two candidates, and the whole query.
+//! The crate has no code that runs, and its four laws are the steps of the proof: the rows of the
+//! auxiliary query, that no rank in them is NULL, the conditions on two candidates, and the whole
+//! query.
 #![tactic(auto)]
 
 mod laws;

@@ -16,10 +16,11 @@ pub fn writes_valid(block: &Block)
     let _ = &block.from;
 }
 
-/// The law that the query that a block is written as fits each set of tables that the block fits: it
-/// names no table but those in the FROM of the block.
+/// The law that the query that a block is written as fits each set of tables that the block fits:
+/// it names no table but those in the FROM of the block.
 pub fn writes_fitting(block: &Block)
-    ensures fits { (tables : Tables) → HasTables tables block.now → FitsTables tables (rewritten block.now) }
+    ensures fits { (tables : Tables) → HasTables tables block.now
+        → FitsTables tables (rewritten block.now) }
 {
     let _ = &block.from;
 }

@@ -8,10 +8,10 @@ ghost use Rattle.sql_tree.specs.declared.tree.SqlQuery.{SqlQuery};
 ghost use Rattle.sql_reader.specs.Reads.{ReadsAs, HasFirstFault};
 ghost use Rattle.written_script.specs.WrittenScript.{AreWritten, IsOther, answers_of_blocks, answers_of_queries, script_of, written};
 
-/// The law of the written script. Let blocks be valid and fit a set of tables. Over each valid set of
-/// tables with the same names in the same order and equal columns, their script in SQL reads as the
-/// queries that they are written as, and has no fault; and whatever it reads as answers, query by
-/// query, what the blocks answer.
+/// The law of the written script. Let blocks be valid and fit a set of tables. Over each valid set
+/// of tables with the same names in the same order and equal columns, their script in SQL reads as
+/// the queries that they are written as, and has no fault; and whatever it reads as answers, query
+/// by query, what the blocks answer.
 pub fn written_script_law()
     ensures reads { (tables others : Tables) (blocks : List Block) → AreWritten tables blocks
         → IsOther tables others → ReadsAs others (script_of blocks) (written blocks) }

@@ -1,5 +1,5 @@
-//! The SQL script that a preference script is written as: over every set of tables that is alike, its
-//! text reads as the queries of the blocks, and what these answer is what the blocks answer.
+//! The SQL script that a preference script is written as: over every set of tables that is alike,
+//! its text reads as the queries of the blocks, and what these answer is what the blocks answer.
 //!
 //! The crate has no code that runs, and one law.
 #![tactic(auto)]

@@ -7,7 +7,8 @@ use std::fs;
 use std::marker::Model;
 use std::rt::HostRuntime;
 
-/// A shelf over the files of the system. It tells nothing of them and is not sure. Each load that fails is counted.
+/// A shelf over the files of the system. It tells nothing of them and is not sure. Each load that
+/// fails is counted.
 #[derive(Drop)]
 pub struct FileShelf {
     runtime: HostRuntime,

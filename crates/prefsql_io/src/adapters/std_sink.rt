@@ -5,8 +5,8 @@ use crate::{Failed, Sink};
 use std::io::{self, ErrorKind, Write};
 use std::marker::Model;
 
-/// A sink over a writer of std. It tells nothing of content, and flushes what it wrote before it answers. Each write that
-/// fails is counted.
+/// A sink over a writer of std. It tells nothing of content, and flushes what it wrote before it
+/// answers. Each write that fails is counted.
 #[derive(Drop)]
 pub struct StdSink<W: Write> {
     inner: W,

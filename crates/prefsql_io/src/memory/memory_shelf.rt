@@ -11,8 +11,8 @@ use prefsql_values::{List, Memory, Text};
 use std::alloc::Global;
 use std::marker::Model;
 
-/// Files in memory. A load that is not refused for want of memory fails exactly where its number is listed or the path
-/// is not held. The shelf is sure exactly where nothing is listed.
+/// Files in memory. A load that is not refused for want of memory fails exactly where its number is
+/// listed or the path is not held. The shelf is sure exactly where nothing is listed.
 #[derive(Debug, Drop)]
 pub struct MemoryShelf {
     alloc: Global,
@@ -31,8 +31,8 @@ impl Model for MemoryShelf {
 impl MemoryShelf {
     ghost use Rattle.prefsql_io.specs.MemoryForms.{no_calls};
 
-    /// A shelf without files, which takes no memory. The loads that `fail` lists fail. The first has the number 1, and a
-    /// load that is refused for want of memory has none.
+    /// A shelf without files, which takes no memory. The loads that `fail` lists fail. The first
+    /// has the number 1, and a load that is refused for want of memory has none.
     pub fn new(alloc: Global, fail: Vec<u64>) -> MemoryShelf
         ensures { result ≡ record { files = []; calls = no_calls fail.items } }
     {
@@ -43,7 +43,8 @@ impl MemoryShelf {
         }
     }
 
-    /// Puts a file at a path, in the place of one that is there. After want of memory the shelf is as before.
+    /// Puts a file at a path, in the place of one that is there. After want of memory the shelf is
+    /// as before.
     pub fn add(&mut self, path: &str, bytes: Vec<u8>) -> Result<(), Memory>
         ensures ok { OnOk result (PutsFile self.old.files self.new.files path.now bytes.items) }
         ensures calls { self.new.calls ≡ self.old.calls }
@@ -117,10 +118,14 @@ impl Shelf for MemoryShelf {
         requires { limit < 2 ^ 64 - 1 }
         ensures bound { IfOk result (λ loaded. vec_len loaded ≤ limit) }
         ensures bytes { LoadTells (Some self.old.files) path.now limit result }
-        ensures same { (Some self.new.files ≡ Some self.old.files) × (is_nil self.new.calls.failing ≡ is_nil self.old.calls.failing) }
-        ensures held { IsTrue (is_nil self.old.calls.failing) → IsHeld (Some self.old.files) path.now → IsErrOf result LoadError.Failed → ⊥ }
-        ensures cause { HasCause self.old.calls.faults self.new.calls.faults (IsErrOf result LoadError.Failed) }
-        ensures kept { (IsErrOf result LoadError.Failed → ⊥) → self.new.calls.faults ≡ self.old.calls.faults }
+        ensures same { (Some self.new.files ≡ Some self.old.files)
+            × (is_nil self.new.calls.failing ≡ is_nil self.old.calls.failing) }
+        ensures held { IsTrue (is_nil self.old.calls.failing)
+            → IsHeld (Some self.old.files) path.now → IsErrOf result LoadError.Failed → ⊥ }
+        ensures cause { HasCause self.old.calls.faults self.new.calls.faults
+            (IsErrOf result LoadError.Failed) }
+        ensures kept { (IsErrOf result LoadError.Failed → ⊥)
+            → self.new.calls.faults ≡ self.old.calls.faults }
         ensures exact { MemoryLoads self.old self.new path.now result }
     {
         let listed = self.calls.is_next_listed();

@@ -10,7 +10,8 @@ use prefsql_values::Memory;
 use std::alloc::Global;
 use std::marker::Model;
 
-/// A sink in memory, with room for some bytes. A write fails exactly where its number is listed or the room is full.
+/// A sink in memory, with room for some bytes. A write fails exactly where its number is listed or
+/// the room is full.
 #[derive(Debug, Drop)]
 pub struct MemorySink {
     bytes: Vec<u8>,
@@ -25,14 +26,21 @@ impl Model for MemorySink {
 
     ghost Value = { SinkState };
 
-    ghost view = { λ s. record { written = s.bytes.items; room = s.room; piece = s.piece; calls = s.calls } };
+    ghost view = { λ s. record {
+      written = s.bytes.items;
+      room = s.room;
+      piece = s.piece;
+      calls = s.calls;
+    } };
 
-    ghost invariant = { λ s. (s.room ≤ vec_capacity s.bytes) × (vec_len s.bytes ≤ s.room) × (1 ≤ s.piece) };
+    ghost invariant = { λ s. (s.room ≤ vec_capacity s.bytes) × (vec_len s.bytes ≤ s.room)
+        × (1 ≤ s.piece) };
 }
 
 impl MemorySink {
-    /// An empty sink, which takes memory for `room` bytes, after which every write fails. Each write moves at most `piece`
-    /// bytes, which is at least 1, and the writes that `fail` lists fail. The first has the number 1.
+    /// An empty sink, which takes memory for `room` bytes, after which every write fails. Each
+    /// write moves at most `piece` bytes, which is at least 1, and the writes that `fail` lists
+    /// fail. The first has the number 1.
     pub fn new(
         alloc: Global,
         room: usize,
@@ -40,7 +48,13 @@ impl MemorySink {
         fail: Vec<u64>,
     ) -> Result<MemorySink, Memory>
         requires { 1 ≤ piece }
-        ensures { IfOk result (λ sink. sink ≡ record { written = []; room = room; piece = piece; calls = no_calls fail.items }) }
+        ensures { IfOk result
+            (λ sink. sink ≡ record {
+              written = [];
+              room = room;
+              piece = piece;
+              calls = no_calls fail.items;
+            }) }
     {
         Ok(MemorySink {
             bytes: Vec::with_capacity(alloc, room)?,
@@ -66,7 +80,8 @@ impl Sink for MemorySink {
     fn write(&mut self, bytes: &[u8]) -> Result<usize, Failed>
         requires { 0 < length bytes.now }
         ensures bound { WritesSome result bytes.now }
-        ensures bytes { WriteAppends (Some self.old.written) (Some self.new.written) result bytes.now }
+        ensures bytes { WriteAppends (Some self.old.written)
+            (Some self.new.written) result bytes.now }
         ensures cause { HasCause self.old.calls.faults self.new.calls.faults (IsErr result) }
         ensures kept { OnOk result (self.new.calls.faults ≡ self.old.calls.faults) }
         ensures exact { MemoryWrites self.old self.new bytes.now result }

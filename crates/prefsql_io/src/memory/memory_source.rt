@@ -23,17 +23,25 @@ impl Model for MemorySource {
 
     ghost Value = { SourceState };
 
-    ghost view = { λ s. record { left = drop s.at s.bytes.items; piece = s.piece; calls = s.calls } };
+    ghost view = { λ s. record {
+      left = drop s.at s.bytes.items;
+      piece = s.piece;
+      calls = s.calls;
+    } };
 
     ghost invariant = { λ s. (s.at ≤ length s.bytes.items) × (1 ≤ s.piece) };
 }
 
 impl MemorySource {
-    /// A source of these bytes. Each read moves at most `piece` bytes, which is at least 1, and the reads that `fail`
-    /// lists fail. The first has the number 1.
+    /// A source of these bytes. Each read moves at most `piece` bytes, which is at least 1, and the
+    /// reads that `fail` lists fail. The first has the number 1.
     pub fn new(bytes: Vec<u8>, piece: usize, fail: Vec<u64>) -> MemorySource
         requires { 1 ≤ piece }
-        ensures { result ≡ record { left = bytes.items; piece = piece; calls = no_calls fail.items } }
+        ensures { result ≡ record {
+          left = bytes.items;
+          piece = piece;
+          calls = no_calls fail.items;
+        } }
     {
         MemorySource {
             bytes,

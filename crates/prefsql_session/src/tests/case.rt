@@ -126,8 +126,8 @@ pub(super) fn ends_twice(alloc: Global, case: &Case<'_>, front: &str) -> Result<
     )
 }
 
-/// Whether the run ends so where its script is written in SQL by these words, and that is executed by
-/// the others.
+/// Whether the run ends so where its script is written in SQL by these words, and that is executed
+/// by the others.
 fn executes(
     alloc: Global,
     case: &Case<'_>,
@@ -149,8 +149,8 @@ fn executes(
     Ok(status == Status::Done && ends(alloc, &executed)?)
 }
 
-/// Whether the script is answered so each way: by its plan, by its SQL query, and by the SQL that is
-/// written first and then executed.
+/// Whether the script is answered so each way: by its plan, by its SQL query, and by the SQL that
+/// is written first and then executed.
 pub(super) fn ends_each_way(
     alloc: Global,
     case: &Case<'_>,

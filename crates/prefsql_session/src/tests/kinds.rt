@@ -3,8 +3,8 @@ use super::case::{CARS, Case, answered, ends};
 use std::alloc::Global;
 use std::test::Fail;
 
-/// Whether the best cars by the preference are written with these items of the auxiliary query behind
-/// the identifier, and with this condition of a better car.
+/// Whether the best cars by the preference are written with these items of the auxiliary query
+/// behind the identifier, and with this condition of a better car.
 fn is_written(alloc: Global, preference: &str, items: &str, better: &str) -> Result<bool, Fail> {
     let script = format!(in alloc; "SELECT id FROM cars PREFERRING {preference}")?;
     let cars = format!(in alloc;

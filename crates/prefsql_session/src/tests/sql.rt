@@ -176,7 +176,8 @@ fn tenfold(alloc: Global, depth: u32) -> Result<String, Fail> {
     Ok(query)
 }
 
-// A sum may reach 10 to the power of 36, and a column of a table is less than 10 to the power of 18.
+// A sum may reach 10 to the power of 36, and a column of a table is less than 10 to the power of
+// 18.
 #[test]
 fn bounds_of_sums(rt: HostRuntime) -> Result<(), Fail> {
     let alloc = rt.alloc();

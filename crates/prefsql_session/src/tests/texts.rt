@@ -1,4 +1,5 @@
-//! The plans and the SQL queries of scripts over the cars and the dealers, counts of tests, and the bench.
+//! The plans and the SQL queries of scripts over the cars and the dealers, counts of tests, and the
+//! bench.
 use super::case::{CHEAPEST, CHEAPEST_CARS, Case, answered, ends, ends_twice};
 use std::test::Fail;
 
