@@ -50,9 +50,6 @@ relation_of = rec-Term Relation relation_step
 abbrev pub IsBetterByTerm : Term → Sight → Sight → Type 0
 IsBetterByTerm term y x = (relation_of term).better y x
 
-abbrev pub IsSameByTerm : Term → Sight → Sight → Type 0
-IsSameByTerm term y x = (relation_of term).same y x
-
 -- the base preference of the leaf keeps its limits, as each one does
 abbrev pub IsSoundLeaf : Leaf → Type 0
 IsSoundLeaf leaf = IsSound leaf.base

@@ -1,7 +1,6 @@
 -- What the columns of a query are to those who see them: their names, their domains, and static
 -- bounds of their numbers. The bounds are this project's own: no sum within them overflows.
-use Rattle.std.specs.Prelude.{ℕ, ◌+◌, ◌-◌, ◌^◌, max, Option, Some, None, List, [], ◌∷◌, map}
-use Rattle.std.specs.Prelude.{slice_index_or}
+use Rattle.std.specs.Prelude.{ℕ, ◌+◌, ◌-◌, ◌^◌, max, List, [], ◌∷◌, map, slice_index_or}
 use Rattle.prefsql_values.specs.declared.value.Domain.{Domain}
 use Rattle.prefsql_values.specs.declared.value.Domain.TheVariants.{Integer, Chars}
 use Rattle.prefsql_tables.specs.declared.schema.Column.{Column}
@@ -67,10 +66,6 @@ greatest_bound (shape ∷ shapes) = max shape.bound (greatest_bound shapes)
 abbrev pub first_domain : List Shape → Domain
 first_domain [] = Integer
 first_domain (shape ∷ shapes) = shape.domain
-
-abbrev pub some_shape : Option Shape → List Shape
-some_shape None = []
-some_shape (Some shape) = shape ∷ []
 
 -- a choice has the domain of its first result, and as bound the greatest of its results'
 abbrev pub choice_shape : List Shape → Shape
