@@ -13,6 +13,3 @@ mod statements;
 
 pub use fault::ParseFault;
 pub use script::parse_sql;
-
-#[cfg(test)]
-mod tests;

@@ -7,8 +7,6 @@ mod named;
 mod order;
 mod quoted;
 mod standing;
-#[cfg(test)]
-mod tests;
 mod words;
 mod writer;
 
