@@ -19,6 +19,3 @@ pub use shelf::{LoadError, Shelf};
 pub use sink::Sink;
 pub use source::Source;
 pub use writing::write_all;
-
-#[cfg(test)]
-mod tests;

@@ -23,6 +23,3 @@ use command::{Command, Shown, TableWord, Task, Wish};
 use command_line::accepted;
 pub use laws::written_text_executes;
 pub use session::{Status, run};
-
-#[cfg(test)]
-mod tests;

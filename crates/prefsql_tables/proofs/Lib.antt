@@ -4,7 +4,6 @@ pub mod CellsLemmas
 pub mod CombosLemmas
 pub mod DistinctLemmas
 pub mod EntryLemmas
-pub mod ExampleLemmas
 pub mod KeptLemmas
 pub mod ListLemmas
 pub mod MemberLemmas

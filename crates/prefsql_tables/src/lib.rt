@@ -16,6 +16,3 @@ pub use schema::{Column, Schema};
 pub use set::{AddError, TableSet};
 pub use sight::cell_in_sight;
 pub use table::{AnswerRow, Table};
-
-#[cfg(test)]
-mod tests;

@@ -8,6 +8,3 @@ mod script;
 
 pub use fault::ParseFault;
 pub use script::parse_script;
-
-#[cfg(test)]
-mod tests;

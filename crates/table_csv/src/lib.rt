@@ -13,6 +13,3 @@ mod writing;
 pub use fault::{TableFault, TableSpot};
 pub use reading::read_table;
 pub use writing::answer_text;
-
-#[cfg(test)]
-mod tests;

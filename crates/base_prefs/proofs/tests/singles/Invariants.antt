@@ -1,6 +1,0 @@
-use Rattle.std.proofs.Common.{◌≡◌, length, All}
-use Rattle.base_prefs.specs.Sets.{IsGivenSet}
-use Rattle.base_prefs.proofs.tests.singles.Given as goal
-
-abbrev pub invariant-loop-word : goal.invariant-loop-word
-invariant-loop-word l = (length l.sets ≡ l.word-index) × All IsGivenSet l.sets

@@ -1,5 +1,0 @@
-use Rattle.prefsql_tables.proofs.ExampleLemmas.{example_schema}
-use Rattle.prefsql_tables.proofs.tests.cars.Goals as goal
-
-pub new-table-requires : goal.new-table-requires
-new-table-requires c = rw c.in_ok-schema.ensures example_schema

@@ -1,0 +1,2 @@
+pub mod CarsAndDealers
+pub mod OneColumn

@@ -1,7 +1,0 @@
-use Rattle.std.proofs.Common.{ℕ, List, [], ◌∷◌, refl, subst, sym}
-use Rattle.prefsql_values.specs.Limits.{IsName}
-use Rattle.table_csv.proofs.SchemaLemmas.{name_valid}
-use Rattle.table_csv.proofs.tests.answer_of.Goals as goal
-
-pub add_table-requires-clause-named : goal.add_table-requires-clause-named
-add_table-requires-clause-named c = subst (λ (name : List ℕ). IsName name) (sym c.in_ok-of.ensures) (name_valid (84 ∷ []) refl)
