@@ -40,6 +40,7 @@ fn answers_of_queries(rt: HostRuntime) -> Result<(), Fail> {
             "SELECT c.id FROM cars c WHERE c.price = 1 AND EXISTS (SELECT 1 FROM dealers)",
             "ID\n\n",
         ),
+        (" -- nothing", ""),
         // 5 to the power of 20 combinations, of which the first one is enough
         (
             "SELECT id FROM cars WHERE id = 1 AND EXISTS (SELECT 1 FROM cars a, cars b, cars c, cars d, cars e, cars f, cars g, cars h, cars i, cars j, cars k, cars l, cars m, cars n, cars o, cars p, cars q, cars r, cars s, cars t)",
@@ -67,6 +68,13 @@ fn first_faults(rt: HostRuntime) -> Result<(), Fail> {
     for (script, err) in [
         ("SELECT id FROM", "error E202 at byte 14\n"),
         ("SELECT CASE END FROM cars", "error E201 at byte 12\n"),
+        ("SELECT (id) FROM cars", "error E201 at byte 7\n"),
+        ("SELECT id - FROM cars", "error E201 at byte 12\n"),
+        (
+            "SELECT id FROM cars WHERE NOT NOT id = 1",
+            "error E201 at byte 30\n",
+        ),
+        ("SELECT id FROM cars;;", "error E201 at byte 20\n"),
         (
             "SELECT id FROM (SELECT id FROM cars)",
             "error E202 at byte 36\n",
