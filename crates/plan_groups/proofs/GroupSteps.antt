@@ -1,5 +1,5 @@
 -- The best of each group of a list, one group after the other: what is known on the way.
-use Rattle.std.proofs.Common.{◌≡◌, ℕ, ◌+◌, ◌*◌, ◌-◌, ◌^◌, ◌<◌, ◌≤◌, min, Bool, true, false, List, [], ◌∷◌, ◌++◌, length, filter, refl, sym, ap, ◌∙◌, inl, inr, ⊎_elim, subst, arith, append_assoc, append-nil, length-append}
+use Rattle.std.proofs.Common.{◌≡◌, ℕ, ◌+◌, ◌*◌, ◌-◌, ◌^◌, ◌<◌, ◌≤◌, min, Bool, true, false, List, [], ◌∷◌, ◌++◌, length, filter, refl, sym, ap, ◌∙◌, inl, inr, ⊎_elim, subst, arith, append_assoc, length-append}
 use Rattle.std.specs.Cmp.{IsEquivalence}
 use Rattle.std.specs.List.{sum_by}
 use Rattle.std.specs.Ordering.{eq_of_both}
@@ -9,7 +9,6 @@ use Rattle.std.proofs.lemmas.List.Sums.{sum_by-append, sum_by-cons}
 use Rattle.order_laws.specs.Best.{best, is_unbettered}
 use Rattle.order_laws.proofs.BestLaws.{same_tests, unbettered_at, unbettered_from}
 use Rattle.order_laws.proofs.Members.{Among, among_back, among_either, among_front, among_kept, filter_same, filter_true}
-use Rattle.plan_groups.specs.Counts.{within_groups}
 
 sum_least : {X : Type 0} (f : X → ℕ) (m : ℕ) (xs : List X) → ((x : X) → Among xs x → m ≤ f x) → length xs * m ≤ sum_by f xs
 sum_least f m [] h = omega arith
@@ -54,17 +53,6 @@ module _ {X : Type 0} (same better : X → X → Bool) (all : List X) where
     pub most_tests : tests ≤ sum_by weight done
     pub least_steps : start + tests ≤ steps
     pub most_steps : tests < 2 ^ 64 - 1 → steps ≤ start + tests * width
-
-  pub grouped_none : (width start : ℕ) → IsGrouped width start [] all [] 0 start
-  grouped_none width start = record {
-    whole = refl;
-    apart = λ a b in_done in_rest. absurd in_done;
-    exact = refl;
-    least_tests = omega arith;
-    most_tests = omega arith;
-    least_steps = omega arith;
-    most_steps = λ h. omega arith;
-  }
 
   module _ (equiv : IsEquivalence same) (done run more : List X) (whole : done ++ (run ++ more) ≡ all)
       (before_apart : (a b : X) → Among done a → Among (run ++ more) b → same a b ≡ false)
@@ -123,12 +111,3 @@ module _ {X : Type 0} (same better : X → X → Bool) (all : List X) where
           least_steps = omega (arith, grouped.least_steps, counted.least_steps);
           most_steps = steps_more width start before after tests added sum added_up grouped.most_steps counted.most_steps;
         }
-
-  pub grouped_all : (width start : ℕ) (done rest kept : List X) (tests steps : ℕ) → IsGrouped width start done rest kept tests steps → rest ≡ []
-      → (kept ≡ best (eq_of_both same better) all) × (length all ≤ tests + length kept) × (tests ≤ within_groups same all (best (eq_of_both same better) all))
-  grouped_all width start done rest kept tests steps grouped none =
-      let is : done ≡ all = sym (append-nil done) ∙ ap (λ ys. done ++ ys) (sym none) ∙ grouped.whole in (
-        grouped.exact ∙ ap (filter one_best) is,
-        subst (λ xs. length xs ≤ tests + length kept) is grouped.least_tests,
-        subst (λ xs. tests ≤ sum_by weight xs) is grouped.most_tests,
-      )

@@ -1,6 +1,6 @@
 -- Answers and the lines for their counts, one after the other.
 use Rattle.std.proofs.Common.{◌≡◌, ◌∙◌, ◌+◌, ◌*◌, ◌<◌, ◌≤◌, ℕ, Bool, true, false, List, [], ◌∷◌, ◌++◌, Option, Some, Ok, Err, inl, inr, length, take, drop, get_or, refl, sym, ap, subst, arith, append-nil, length-append}
-use Rattle.std.proofs.KnownBytes.{Appends-kept, Appends-nil, Appends-trans}
+use Rattle.std.proofs.KnownBytes.{Appends-kept, Appends-trans}
 use Rattle.std.proofs.lemmas.Grind.{flat_map-append}
 use Rattle.std.proofs.lemmas.List.{take_more, take-append-drop}
 use Rattle.std.proofs.lemmas.List.Elements.{All-pop}
@@ -84,22 +84,6 @@ pub record HasAnswered (tells : Bool) (tables : Tables) (blocks : List Block) (a
   pub told : Appends err_old err_new (told_lines tells tests)
   pub kept : now ≡ before
   pub err_kept : err_now ≡ err_before
-
-told-nil : (tells : Bool) → told_lines tells [] ≡ []
-told-nil true = refl
-told-nil false = refl
-
--- none of them
-pub none_answered : (tells : Bool) (tables : Tables) (blocks : List Block) (faults : ℕ) (out : Option (List ℕ)) (err_faults : ℕ) (err : Option (List ℕ)) (start : ℕ)
-    → HasAnswered tells tables blocks 0 faults faults out out err_faults err_faults err err start start
-none_answered tells tables blocks faults out err_faults err start = record {
-  appended = Appends-nil out;
-  tests = [];
-  takes = record { counts = tt; least = omega arith; most = λ all. omega arith };
-  told = subst (Appends err err) (sym (told-nil tells)) (Appends-nil err);
-  kept = refl;
-  err_kept = refl;
-}
 
 module _ (tells : Bool) (tables : Tables) (blocks : List Block) (at : ℕ) (block : Block) (item : get_or blocks at block ≡ block) (lt : at < length blocks)
     (before now : ℕ) (old new : Option (List ℕ)) (err_before err_now : ℕ) (err_old err_new : Option (List ℕ)) (start middle : ℕ)
@@ -187,13 +171,3 @@ module _ (tells : Bool) (tables : Tables) (blocks : List Block) (at : ℕ) (bloc
       → WritesAnswers tells tables blocks before later old out err_before err_later err_old err start end (Err halt)
   stopped WriteFault wrote = write_stopped wrote
   stopped Memory wrote = memory_stopped wrote
-
--- all of them
-pub all_answered : (tells : Bool) (tables : Tables) (blocks : List Block) (at : ℕ) (before now : ℕ) (old new : Option (List ℕ)) (err_before err_now : ℕ)
-    (err_old err_new : Option (List ℕ)) (start end : ℕ) → take at blocks ≡ blocks
-    → HasAnswered tells tables blocks at before now old new err_before err_now err_old err_new start end
-    → WritesAnswers tells tables blocks before now old new err_before err_now err_old err_new start end (Ok tt)
-all_answered tells tables blocks at before now old new err_before err_now err_old err_new start end all so_far = (
-  (flat_map (text tables) blocks, refl, subst (λ bs. Appends old new (flat_map (text tables) bs)) all so_far.appended),
-  (so_far.tests, subst (λ bs. Takes tables bs so_far.tests start end) all so_far.takes, so_far.told),
-)

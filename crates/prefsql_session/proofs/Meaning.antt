@@ -165,18 +165,6 @@ words_plain name counts words not_plain = either (bytes_eq name (codes "bench"))
     either true false = ap (option_map Bench) (count_plain words not_plain)
     either false flag = script_plain name counts words not_plain
 
--- a first word that begins with a hyphen is no command
-pub name_plain : (name : Text) (words : List Text) → is_plain name ≡ false → accepted (name ∷ words) ≡ None
-name_plain [] words not_plain = absurd (true≢false not_plain)
-name_plain (c ∷ cs) words not_plain =
-    let hyphen : c ≡ 45 = grind arith in
-    subst (λ d. accepted ((d ∷ cs) ∷ words) ≡ None) (sym hyphen) (none (nat_le (stats_among words) 1) (stats_among words == 1))
-  where
-    none : (few counts : Bool) → (if few then command_of (45 ∷ cs) counts (operands words) else None) ≡ None
-    none true true = refl
-    none true false = refl
-    none false counts = refl
-
 -- words that `clap` refuses are not accepted
 pub refused : (name : Text) (words : List Text) → is_plain name ≡ true → (takes words_app (name ∷ words) ≡ true → ⊥) → accepted (name ∷ words) ≡ None
 refused name words plain refuses = go (nat_le (stats_among words) 1) refl (list_all is_plain (operands words)) refl
@@ -201,7 +189,3 @@ flag_is false flag o is stands lacks = lacks is
 pub plain_first : (words : List Text) → begins_plain words ≡ true → (name : Text) × (further : List Text) × (words ≡ name ∷ further) × (is_plain name ≡ true)
 plain_first [] plain = absurd (true≢false (sym plain))
 plain_first (name ∷ further) plain = (name, further, refl, plain)
-
-pub not_plain_first : (words : List Text) → begins_plain words ≡ false → accepted words ≡ None
-not_plain_first [] not_plain = refl
-not_plain_first (name ∷ further) not_plain = name_plain name further not_plain

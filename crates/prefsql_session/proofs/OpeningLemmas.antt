@@ -1,12 +1,12 @@
 -- Tables, one after another.
-use Rattle.std.proofs.Common.{◌≡◌, ◌∙◌, ℕ, suc, ◌+◌, ◌<◌, ◌≤◌, List, [], ◌∷◌, ◌++◌, length, drop, get_or, Bool, true, false, ◌||◌, if◌then◌else◌, Option, Some, None, Result, Ok, Err, refl, sym, ap, subst, nat_lt, arith, Vec, Global}
+use Rattle.std.proofs.Common.{◌≡◌, ◌∙◌, ℕ, suc, ◌+◌, ◌<◌, List, [], ◌∷◌, ◌++◌, length, drop, get_or, Bool, true, false, ◌||◌, if◌then◌else◌, Option, Some, None, Result, Ok, Err, refl, sym, ap, subst, nat_lt, arith, Vec, Global}
 use Rattle.std.proofs.Math.Seq.{drop-cons}
 use Rattle.std.proofs.lemmas.Bool.Decides.{nat_tests}
 use Rattle.std.proofs.lemmas.List.{length-append, map-append}
 use Rattle.std.specs.Prelude.{Contains, IsNone, IsSome, is_some, ◌↔◌}
 use Rattle.std.proofs.lemmas.Bool.{false≢true}
 use Rattle.prefsql_tables.proofs.PlaceLemmas.{name_found}
-use Rattle.prefsql_io.specs.Files.{Files, IsHeld, LoadGives, LoadTells, bytes_at}
+use Rattle.prefsql_io.specs.Files.{Files, LoadGives, LoadTells, bytes_at}
 use Rattle.prefsql_io.specs.declared.shelf.LoadError.TheVariants.{TooLong}
 use Rattle.prefsql_tables.specs.Names.{IsPlaceAmong, table_names}
 use Rattle.prefsql_tables.specs.Table.{Tables}
@@ -18,7 +18,6 @@ use Rattle.prefsql_session.specs.Parts.{Opens}
 use Rattle.prefsql_session.specs.Stage.{Stage, untold, barred, unaccepted, missing, faulty, ready, and_then, barred_if, ready_or, MayGive, MayHaveFault}
 use Rattle.prefsql_session.specs.declared.command.TableWord.{TableWord}
 use Rattle.prefsql_session.specs.declared.fault.Fault.{Fault}
-use Rattle.prefsql_session.specs.declared.fault.Fault.TheVariants.{Table}
 use Rattle.prefsql_session.specs.declared.fault.Stop.{Stop}
 use Rattle.prefsql_session.specs.declared.fault.Stop.TheVariants.{Usage, Refused, ReadFault, ShelfFault, Memory}
 
@@ -62,10 +61,6 @@ barred_if-false unaccepted = refl
 barred_if-false missing = refl
 barred_if-false (faulty fault) = refl
 barred_if-false (ready value) = refl
-
-barred_if-missing : {T : Type 0} (b : Bool) (s : Stage T) → s ≡ missing → barred_if b s ≡ missing
-barred_if-missing true s is = ap (barred_if true) is
-barred_if-missing false s is = barred_if-false s ∙ is
 
 Opens-barred : {T : Type 0} (b : Bool) (s : Stage T) (stop : Stop) → Opens s (Err stop) → Opens (barred_if b s) (Err stop)
 Opens-barred b s Usage is = absurd is
@@ -162,17 +157,6 @@ pub missing_file : (files : Option Files) (word : TableWord) → file_stage file
     → and_then (file_stage files word.path) (table_of_bytes word.name) ≡ missing
 missing_file files word is = ap (λ s. and_then s (table_of_bytes word.name)) is
 
--- a file that is not too long
-short_file : (name bytes : List ℕ) → length bytes ≤ 8388608 → table_of_bytes name bytes ≡ as_table name (file_table bytes)
-short_file name bytes short = let test : nat_lt 8388608 (length bytes) ≡ false = grind (arith, nat_tests) in rw test refl
-
-pub file_read : (name bytes : List ℕ) (table : TableData) → length bytes ≤ 8388608 → file_table bytes ≡ Ok table → Opens (table_of_bytes name bytes) (Ok table)
-file_read name bytes table short is = rw (short_file name bytes short, is) refl
-
-pub file_faulty : (name bytes : List ℕ) (spot : TableSpot) → length bytes ≤ 8388608 → file_table bytes ≡ Err spot
-    → Opens (table_of_bytes name bytes) (Err (Refused (Table name spot)))
-file_faulty name bytes spot short is = rw (short_file name bytes short, is) refl
-
 long_file : (name bytes : List ℕ) → 8388608 < length bytes → table_of_bytes name bytes ≡ faulty (file_fault name 511)
 long_file name bytes long = let test : nat_lt 8388608 (length bytes) ≡ true = grind (arith, nat_tests) in rw test refl
 
@@ -197,15 +181,6 @@ too_long None name path fault gives is = tt
 too_long (Some held) name path fault gives is =
     subst (λ f. Opens (and_then (file_stage (Some held) path) (table_of_bytes name)) (Err (Refused f))) (sym is) (long_at name (bytes_at held path) gives)
 
-lacks_at : (o : Option (List ℕ)) → (IsSome o → ⊥) → ready_or missing o ≡ missing
-lacks_at None lacks = refl
-lacks_at (Some held) lacks = absurd (lacks refl)
-
--- a load that failed on a sure shelf
-pub not_held : (files : Option Files) (path : List ℕ) → IsSome files → (IsHeld files path → ⊥) → file_stage files path ≡ missing
-not_held None path known lacks = absurd (cc)
-not_held (Some held) path known lacks = lacks_at (bytes_at held path) lacks
-
 -- ---- all tables
 
 abbrev named : TableWord → TableData → NamedTable
@@ -216,10 +191,6 @@ pub record Reached (files : Option Files) (words : List TableWord) (tables : Tab
   pub leads : (r : Result Tables Stop) → Opens (tables_after files tables rest) r → Opens (tables_after files [] words) r
   pub told : IsSome files → tables_after files [] words ≡ tables_after files tables rest
   pub repeated : has_repeated [] words ≡ has_repeated (table_names tables) rest
-
-pub reached_none : (files : Option Files) (words : List TableWord) (tables : Tables) → tables ≡ [] → Reached files words tables words
-reached_none files words tables none =
-    subst (λ ts. Reached files words ts words) (sym none) (record { leads = λ r is. is; told = λ known. refl; repeated = refl })
 
 module _ (files : Option Files) (words : List TableWord) (tables : Tables) (word : TableWord) (rest : List TableWord) (reached : Reached files words tables (word ∷ rest)) where
   abbrev next : TableData → Stage Tables
@@ -241,15 +212,6 @@ module _ (files : Option Files) (words : List TableWord) (tables : Tables) (word
   stopped stop is =
       Opens-barred (has_repeated [] words) (tables_after files [] words) stop
       (reached.leads (Err stop) (Opens-then_err (table_stage files (table_names tables) word) next stop is))
-
-  pub lost : IsSome files → table_stage files (table_names tables) word ≡ missing → tables_stage files words ≡ missing
-  lost known is =
-      barred_if-missing (has_repeated [] words) (tables_after files [] words) (reached.told known ∙ ap (λ s. and_then s next) is)
-
-pub all_open : (files : Option Files) (words : List TableWord) (tables : Tables) → Reached files words tables [] → Opens (tables_stage files words) (Ok tables)
-all_open files words tables reached =
-    subst (λ b. MayGive (barred_if b (tables_after files [] words)) tables) (sym reached.repeated)
-    (subst (λ s. MayGive s tables) (sym (barred_if-false (tables_after files [] words))) (reached.leads (Ok tables) refl))
 
 -- ---- the loop over the words
 

@@ -1,8 +1,7 @@
 -- The words, the tables and the script, one after the other.
-use Rattle.std.proofs.Common.{◌≡◌, ◌<◌, ◌≤◌, ◌+◌, ◌∙◌, ℕ, List, [], ◌∷◌, length, All, Option, Some, None, Result, Ok, Err, inl, inr, refl, sym, ap, subst, arith, length-append}
+use Rattle.std.proofs.Common.{◌≡◌, ◌<◌, ◌≤◌, ◌∙◌, ℕ, List, [], ◌∷◌, length, Option, Some, None, Result, Ok, Err, inl, inr, refl, sym, ap, subst, arith}
 use Rattle.std.specs.Prelude.{IfSome}
 use Rattle.prefsql_io.specs.Files.{Files}
-use Rattle.prefsql_io.specs.Streams.{TakesPast}
 use Rattle.prefsql_tables.specs.Table.{Tables}
 use Rattle.query_meaning.specs.declared.block.Block.{Block}
 use Rattle.prefsql_lexer.specs.Tokens.{IsTokens}
@@ -15,18 +14,14 @@ use Rattle.query_tree.specs.declared.query.QueryTree.{QueryTree}
 use Rattle.query_typing.specs.Typing.{IsFirstOfScript, Types}
 use Rattle.query_typing.specs.declared.fault.TypeFault.{TypeFault}
 use Rattle.query_typing.specs.declared.fault.TypeFault.TheVariants as type
-use Rattle.prefsql_values.specs.Limits.{IsName}
-use Rattle.sql_reader.specs.Answers.{SaysFirst}
-use Rattle.sql_reader.specs.declared.fault.SqlFault.{SqlFault}
 use Rattle.sql_reader.specs.declared.fault.SqlFault.TheVariants as sql
 use Rattle.sql_tree.specs.declared.tree.SqlQuery.{SqlQuery}
-use Rattle.prefsql_session.specs.Stops.{parsing, reading, typing}
-use Rattle.prefsql_session.proofs.NameLemmas.{IsNamedCommand}
+use Rattle.prefsql_session.specs.Stops.{parsing, typing}
 use Rattle.prefsql_session.specs.Course.{GoesOn}
 use Rattle.prefsql_session.specs.Opening.{Job, job_stage, over}
 use Rattle.prefsql_session.specs.Parts.{Asks, Ends, Opens, Prepares, Reading, Reads}
 use Rattle.prefsql_session.specs.Run.{AsksForTables, AtEnd}
-use Rattle.prefsql_session.specs.ScriptEnd.{AsksFor, HasQueryFault, script_limit}
+use Rattle.prefsql_session.specs.ScriptEnd.{script_limit}
 use Rattle.prefsql_session.specs.Stage.{Stage, untold, barred, unaccepted, missing, faulty, ready, and_then, ready_or, MayGive}
 use Rattle.prefsql_session.specs.declared.command.Command.{Command}
 use Rattle.prefsql_session.specs.declared.command.Command.TheVariants.{OnScript}
@@ -43,14 +38,6 @@ use Rattle.prefsql_session.specs.declared.work.Work.{Work}
 use Rattle.prefsql_session.specs.declared.work.Work.TheVariants.{Bench, Queries, Statements}
 
 -- ---- the script
-
--- more than the limit was there
-pub past_limit : (old new : Option (List ℕ)) (limit : ℕ) → TakesPast old new limit → IfSome old (λ all. limit < length all)
-past_limit None new limit past = tt
-past_limit (Some all) None limit past = absurd past.2
-past_limit (Some all) (Some rest) limit past =
-    let parts : length all ≡ length past.0 + length rest = ap length past.2 ∙ length-append past.0 rest in
-    omega (arith, parts, past.1)
 
 -- a script that is too long
 pub too_long : (task : Task) (tables : Tables) (script : Option (List ℕ)) (fault : Fault) → IfSome script (λ all. script_limit task < length all)
@@ -96,17 +83,6 @@ module _ (tables : Tables) (text : List ℕ) (short : length text ≤ 268435456)
   sql_stopped Memory is = tt
   sql_stopped (Refused (Table name spot)) is = absurd is
   sql_stopped (Refused (Script spot)) is = (faulty (Script spot), inr (short, is), refl)
-
-pub read_stopped : (tables : Tables) (text : List ℕ) (fault : SqlFault) → SaysFirst tables text fault → Reading tables text (Err (reading fault))
-read_stopped tables text (sql.Bad spot) says = says
-read_stopped tables text sql.Memory says = tt
-
--- no stop of a text is one of a device
-pub asks_unread : (tables : Tables) (text : List ℕ) (stop : Stop) → Asks tables text (Err stop) → stop ≡ ReadFault → ⊥
-asks_unread tables text stop is same = subst (λ s. Asks tables text (Err s)) same is
-
-pub reading_unread : (tables : Tables) (text : List ℕ) (stop : Stop) → Reading tables text (Err stop) → stop ≡ ReadFault → ⊥
-reading_unread tables text stop is same = subst (λ s. Reading tables text (Err s)) same is
 
 -- what a text comes to is what the script comes to, where that is told
 untold_end : (task : Task) (tables : Tables) (text : List ℕ) (r : Result Work Stop) → Ends task tables (Some text) r → Ends task tables None r
@@ -208,9 +184,6 @@ module _ (files : Option Files) (script : Option (List ℕ)) where
   prepared asked command r is prepares =
       subst (λ (a : Option Command). Prepares (GoesOn (opens a) script) (opens a) a r) (sym is) prepares
 
-  pub refused_words : (asked : Option Command) → asked ≡ None → GoesOn (opens asked) script unaccepted
-  refused_words asked is = subst (λ (a : Option Command). GoesOn (opens a) script unaccepted) (sym is) refl
-
   pub missing_job : (asked : Option Command) (command : Command) → asked ≡ Some command → job_stage files command ≡ missing → opens asked ≡ missing
   missing_job asked command is job = ap opens is ∙ job
 
@@ -226,12 +199,6 @@ bench_prepared files script asked count is =
 module _ (command : Command) (task : Task) (words seen : List TableWord) (is : command ≡ OnScript task words) (same : seen ≡ words) where
   command_seen : command ≡ OnScript task seen
   command_seen = is ∙ ap (OnScript task) (sym same)
-
-  pub few_words : IsNamedCommand command → length seen ≤ 8
-  few_words named = let n = subst IsNamedCommand command_seen named in n.few
-
-  pub named_words : IsNamedCommand command → All (λ (word : TableWord). IsName word.name) seen
-  named_words named = let n = subst IsNamedCommand command_seen named in n.named
 
   module _ (files : Option Files) (script : Option (List ℕ)) (asked : Option Command) (accepts : asked ≡ Some command) where
     accepts_seen : asked ≡ Some (OnScript task seen)

@@ -1,7 +1,7 @@
 -- What both languages have is read in a preference script as it is by itself.
 use Rattle.std.proofs.Common.{◌≡◌, ℕ, List, refl}
 use Rattle.prefsql_lexer.specs.declared.token.Token.{Token}
-use Rattle.token_forms.specs.Columns.{column, columns, optional_sign, number_form, literal, literals, op, direction, order, orders}
+use Rattle.token_forms.specs.Columns.{column, columns, optional_sign, number_form, literal, op, direction, order, orders}
 use Rattle.token_forms.specs.Phrases.{alias, from, from_items, distinctness, negation, ordering}
 use Rattle.token_forms.specs.Plain.{plain}
 use Rattle.query_grammar.specs.Outcome.{outcome}
@@ -17,10 +17,6 @@ plain_columns n ts = refl
 pub plain_literal : (n : ℕ) (ts : List Token) → outcome n literal ts ≡ plain literal ts
 unfolding optional_sign number_form literal
 plain_literal n ts = refl
-
-pub plain_literals : (n : ℕ) (ts : List Token) → outcome n literals ts ≡ plain literals ts
-unfolding optional_sign number_form literal literals
-plain_literals n ts = refl
 
 pub plain_op : (n : ℕ) (ts : List Token) → outcome n op ts ≡ plain op ts
 unfolding op

@@ -3,7 +3,7 @@ use Rattle.std.proofs.Common.{◌≡◌, ℕ, Bool, true, false, List, [], ◌�
 use Rattle.grammar_forms.specs.Reading.{starts, continues, is_optional, is_predictive}
 use Rattle.grammar_forms.proofs.Predictive.{AgreesAt}
 use Rattle.prefsql_lexer.specs.declared.token.Token.{Token}
-use Rattle.prefsql_lexer.specs.declared.token.Keyword.TheVariants.{Others, Select}
+use Rattle.prefsql_lexer.specs.declared.token.Keyword.TheVariants.{Select}
 use Rattle.token_forms.specs.Classes.{class, word_class}
 use Rattle.query_grammar.specs.Rules.{Grammar, Rule, condition_rule, preference_rule}
 use Rattle.token_forms.specs.Columns.{column, optional_sign, number_form, literal, literals, op}
@@ -34,10 +34,6 @@ unfolding column optional_sign number_form literal literals set level distance p
 agrees A (condition_rule false) = record { decides = refl; not_empty = refl; starts_with = refl; goes_on_with = refl }
 agrees A (condition_rule true) = record { decides = refl; not_empty = refl; starts_with = refl; goes_on_with = refl }
 agrees A preference_rule = record { decides = refl; not_empty = refl; starts_with = refl; goes_on_with = refl }
-
-pub predictive-literal : predictive literal ≡ true
-unfolding column optional_sign number_form literal literals set level distance plain_scalar scalar op negation between scalars member null_test negatable comparison rest_form plain_test test_form negated conjuncts conjunction disjuncts condition mark edge good_set bad_set otherwise good_base between_base sets others more_layers sets_and_others layers_form other_form edges graph_form column_base lowest highest any_base primary primaries pareto cascade preference alias value item items list from from_items direction order orders columns filter groups only ordering prefer_form distinctness statement_form
-predictive-literal = refl
 
 pub predictive-scalar_form : (q : Bool) → predictive (scalar q) ≡ true
 unfolding column optional_sign number_form literal literals set level distance plain_scalar scalar op negation between scalars member null_test negatable comparison rest_form plain_test test_form negated conjuncts conjunction disjuncts condition
@@ -70,22 +66,6 @@ pub predictive-item : predictive item ≡ true
 unfolding column optional_sign number_form literal literals set level distance plain_scalar scalar op negation between scalars member null_test negatable comparison rest_form plain_test test_form negated conjuncts conjunction disjuncts condition mark edge good_set bad_set otherwise good_base between_base sets others more_layers sets_and_others layers_form other_form edges graph_form column_base lowest highest any_base primary primaries pareto cascade preference alias value item items list from from_items direction order orders columns filter groups only ordering prefer_form distinctness statement_form
 predictive-item = refl
 
-pub predictive-from_item : predictive from ≡ true
-unfolding column optional_sign number_form literal literals set level distance plain_scalar scalar op negation between scalars member null_test negatable comparison rest_form plain_test test_form negated conjuncts conjunction disjuncts condition mark edge good_set bad_set otherwise good_base between_base sets others more_layers sets_and_others layers_form other_form edges graph_form column_base lowest highest any_base primary primaries pareto cascade preference alias value item items list from from_items direction order orders columns filter groups only ordering prefer_form distinctness statement_form
-predictive-from_item = refl
-
-pub predictive-order_item : predictive order ≡ true
-unfolding column optional_sign number_form literal literals set level distance plain_scalar scalar op negation between scalars member null_test negatable comparison rest_form plain_test test_form negated conjuncts conjunction disjuncts condition mark edge good_set bad_set otherwise good_base between_base sets others more_layers sets_and_others layers_form other_form edges graph_form column_base lowest highest any_base primary primaries pareto cascade preference alias value item items list from from_items direction order orders columns filter groups only ordering prefer_form distinctness statement_form
-predictive-order_item = refl
-
-pub predictive-column : predictive column ≡ true
-unfolding column optional_sign number_form literal literals set level distance plain_scalar scalar op negation between scalars member null_test negatable comparison rest_form plain_test test_form negated conjuncts conjunction disjuncts condition mark edge good_set bad_set otherwise good_base between_base sets others more_layers sets_and_others layers_form other_form edges graph_form column_base lowest highest any_base primary primaries pareto cascade preference alias value item items list from from_items direction order orders columns filter groups only ordering prefer_form distinctness statement_form
-predictive-column = refl
-
-pub predictive-statement : predictive statement_form ≡ true
-unfolding column optional_sign number_form literal literals set level distance plain_scalar scalar op negation between scalars member null_test negatable comparison rest_form plain_test test_form negated conjuncts conjunction disjuncts condition mark edge good_set bad_set otherwise good_base between_base sets others more_layers sets_and_others layers_form other_form edges graph_form column_base lowest highest any_base primary primaries pareto cascade preference alias value item items list from from_items direction order orders columns filter groups only ordering prefer_form distinctness statement_form
-predictive-statement = refl
-
 pub predictive-counted : predictive (counted statement_form 64) ≡ true
 unfolding column optional_sign number_form literal literals set level distance plain_scalar scalar op negation between scalars member null_test negatable comparison rest_form plain_test test_form negated conjuncts conjunction disjuncts condition mark edge good_set bad_set otherwise good_base between_base sets others more_layers sets_and_others layers_form other_form edges graph_form column_base lowest highest any_base primary primaries pareto cascade preference alias value item items list from from_items direction order orders columns filter groups only ordering prefer_form distinctness statement_form counted
 predictive-counted = refl
@@ -93,14 +73,6 @@ predictive-counted = refl
 pub predictive-set : predictive set ≡ true
 unfolding optional_sign number_form literal literals set
 predictive-set = refl
-
-pub predictive-more_layers : predictive more_layers ≡ true
-unfolding optional_sign number_form literal literals set sets others more_layers
-predictive-more_layers = refl
-
-pub starts-others : first others ≡ word_class Others ∷ []
-unfolding others
-starts-others = refl
 
 pub statement-begins : first statement_form ≡ word_class Select ∷ []
 unfolding statement_form

@@ -118,9 +118,6 @@ module _ (tables : Tables) (from : List FromTree) where
   other_bases count base bases all =
       second_met (owes 318 base.at (not (eqb count 8)) ∷ base_obligations tables from base) (bases_obligations tables from (count + 1) bases) all
 
-  abbrev AreBoth : List Leaf → Type 0
-  AreBoth leaves = All (IsLeaf (map (from_table tables) from)) leaves × All (IsValidLeaf (map (from_table tables) from)) leaves
-
   pub leaves_are : (number count : ℕ) (bases : List BaseTree) (leaves : List Leaf) → All IsBase bases → AllMet (bases_obligations tables from count bases) → AreLeavesOf tables from number bases leaves
       → All (IsLeaf (map (from_table tables) from)) leaves × All (IsValidLeaf (map (from_table tables) from)) leaves
   leaves_are number count [] [] made all are = (All-nil (IsLeaf (map (from_table tables) from)), All-nil (IsValidLeaf (map (from_table tables) from)))

@@ -20,7 +20,7 @@ use Rattle.query_tree.specs.declared.query.FromTree.{FromTree}
 use Rattle.prefsql_tables.specs.declared.place.SortKey.{SortKey}
 use Rattle.prefsql_lexer.specs.declared.token.Token.{Token}
 use Rattle.prefsql_lexer.specs.Tokens.{IsTokens}
-use Rattle.sql_tree.specs.Fits.{IsTableOf, FitsTables, tables_of, if_written}
+use Rattle.sql_tree.specs.Fits.{IsTableOf, FitsTables, tables_of, if_written, cond_tables, scalar_tables, source_tables, from_tables, item_tables, when_tables, term_tables}
 use Rattle.sql_tree.specs.declared.tree.SqlTable.{SqlTable}
 use Rattle.sql_tree.specs.declared.tree.SqlPlace.{SqlPlace}
 use Rattle.sql_tree.specs.declared.tree.SqlCond.{SqlCond}
@@ -56,7 +56,7 @@ use Rattle.read_queries.proofs.Kept.{Where}
 use Rattle.read_queries.proofs.Grammar.{Closed, statements_keep}
 use Rattle.read_queries.proofs.Scripts.{queries_hold}
 use Rattle.read_queries.proofs.Readings.{reading-And, reading-Or, reading-Not, reading-Compare, reading-Between, reading-OneOf, reading-IsNull, reading-Exists, reading-Column, reading-Literal, reading-Sum, reading-Case, last_reading, term_reading_is, when_reading_is, item_reading_is, reading-Items, reading-All, reading-Table, reading-Derived, filter_reading, own_scopes, by_parts}
-use Rattle.read_queries.proofs.TablesNamed.{tables_cond, tables_scalar, tables_source, tables_from, tables_item, tables_when, tables_term, tables-And, tables-Or, tables-Not, tables-Compare, tables-Between, tables-OneOf, tables-IsNull, tables-Exists, tables-Column, tables-Number, tables-Chars, tables-Sum, tables-Case, tables-Table, tables-Derived, tables_from_is, tables_item_is, tables_when_is, tables_term_is, tables_query_is}
+use Rattle.sql_tree.proofs.RolledTables.{tables-And, tables-Or, tables-Not, tables-Compare, tables-Between, tables-OneOf, tables-IsNull, tables-Exists, tables-Column, tables-Number, tables-Chars, tables-Sum, tables-Case, tables-Table, tables-Derived, tables_from_is, tables_item_is, tables_when_is, tables_term_is, tables_query_is}
 use Rattle.read_queries.proofs.FaultsNone.{some_none, none_left, none_right, first_none, either_first, either_second, inner_none, all_map, all_read, each_holds}
 
 module _ (tables : Tables) where
@@ -78,16 +78,16 @@ module _ (tables : Tables) where
   -- ---- what is shown of each reading
 
   abbrev OfScalar : ScalarReading → Type 0
-  OfScalar r = r.faults ≡ [] → Stand (tables_scalar r.tree)
+  OfScalar r = r.faults ≡ [] → Stand (scalar_tables r.tree)
 
   abbrev OfCond : CondReading → Type 0
-  OfCond r = r.faults ≡ [] → Stand (tables_cond r.tree)
+  OfCond r = r.faults ≡ [] → Stand (cond_tables r.tree)
 
   abbrev OfOutput : OutputReading → Type 0
-  OfOutput r = r.faults ≡ [] → Stand (tables_item r.item)
+  OfOutput r = r.faults ≡ [] → Stand (item_tables r.item)
 
   abbrev OfFrom : FromReading → Type 0
-  OfFrom r = r.faults ≡ [] → Stand (tables_from r.tree)
+  OfFrom r = r.faults ≡ [] → Stand (from_tables r.tree)
 
   abbrev OfQuery : QueryReading → Type 0
   OfQuery r = r.first ≡ None → Stand (tables_of r.tree)
@@ -109,24 +109,24 @@ module _ (tables : Tables) where
 
   -- ---- scalars
 
-  no_tables_column : (p : SqlPlace) → Stand (tables_scalar (Column p))
-  no_tables_column p = subst Stand (sym (ap tables_scalar (sym (views.rolls-Column p)) ∙ tables-Column p)) stand_none
+  no_tables_column : (p : SqlPlace) → Stand (scalar_tables (Column p))
+  no_tables_column p = subst Stand (sym (ap scalar_tables (sym (views.rolls-Column p)) ∙ tables-Column p)) stand_none
 
   column_fits : (name : NameTree) (scopes : Scopes) (places : List SqlPlace) → OfScalar (column_reading name scopes places)
   column_fits name scopes [] e = no_tables_column (record { up = 0; item = 0; column = 0 })
   column_fits name scopes (p ∷ []) e = no_tables_column p
   column_fits name scopes (p ∷ q ∷ more) e = no_tables_column p
 
-  no_tables_number : (n : ℤ) → Stand (tables_scalar (Number n))
-  no_tables_number n = subst Stand (sym (ap tables_scalar (sym (views.rolls-Number n)) ∙ tables-Number n)) stand_none
+  no_tables_number : (n : ℤ) → Stand (scalar_tables (Number n))
+  no_tables_number n = subst Stand (sym (ap scalar_tables (sym (views.rolls-Number n)) ∙ tables-Number n)) stand_none
 
   literal_fits : (v : Value) (at : ℕ) → OfScalar (literal_reading v at)
   literal_fits (Num n) at e = no_tables_number n
-  literal_fits (Str t) at e = subst Stand (sym (ap tables_scalar (sym (views.rolls-Chars t)) ∙ tables-Chars t)) stand_none
+  literal_fits (Str t) at e = subst Stand (sym (ap scalar_tables (sym (views.rolls-Chars t)) ∙ tables-Chars t)) stand_none
   literal_fits Null at e = no_tables_number _
 
   abbrev OfTermReading : TermReading → Type 0
-  OfTermReading r = r.scalar.faults ++ fault_if (is_text r.scalar.domain) 305 r.scalar.at ≡ [] → Stand (tables_term (record { minus = r.minus; scalar = r.scalar.tree }))
+  OfTermReading r = r.scalar.faults ++ fault_if (is_text r.scalar.domain) 305 r.scalar.at ≡ [] → Stand (term_tables (record { minus = r.minus; scalar = r.scalar.tree }))
 
   term_fits : (t : NamedTerm) → FitScalar t.scalar → (scopes : Scopes) → OfTermReading (term_reading tables t scopes)
   term_fits t is scopes =
@@ -142,11 +142,11 @@ module _ (tables : Tables) where
       let h : TermReading → SumTerm = λ term. record { minus = term.minus; scalar = term.scalar.tree } in
       let each : All OfTermReading rs = all_read (term_reading tables) scopes P OfTermReading (λ t is. term_fits t is scopes) ts all in
       subst OfScalar (sym (reading-Sum tables ts scopes))
-      (λ e. subst Stand (sym (ap tables_scalar (sym (views.rolls-Sum (map h rs))) ∙ tables-Sum (map h rs)))
-      (stand_each h tables_term rs (each_holds f (λ r. Stand (tables_term (h r))) rs each (none_left (flat_map f rs) (bound_faults 0 rs) e))))
+      (λ e. subst Stand (sym (ap scalar_tables (sym (views.rolls-Sum (map h rs))) ∙ tables-Sum (map h rs)))
+      (stand_each h term_tables rs (each_holds f (λ r. Stand (term_tables (h r))) rs each (none_left (flat_map f rs) (bound_faults 0 rs) e))))
 
   abbrev OfWhenReading : WhenReading → Type 0
-  OfWhenReading r = r.cond.faults ++ r.value.faults ≡ [] → Stand (tables_when (record { cond = r.cond.tree; value = r.value.tree }))
+  OfWhenReading r = r.cond.faults ++ r.value.faults ≡ [] → Stand (when_tables (record { cond = r.cond.tree; value = r.value.tree }))
 
   when_fits : (w : NamedWhen) → FitCond w.cond × FitScalar w.value → (scopes : Scopes) → OfWhenReading (when_reading tables w scopes)
   when_fits w is scopes =
@@ -154,9 +154,9 @@ module _ (tables : Tables) where
       let v = scalar_reading tables w.value scopes in
       subst OfWhenReading (sym (when_reading_is tables w scopes))
       (λ e. subst Stand (sym (tables_when_is (record { cond = c.tree; value = v.tree })))
-      (stand_both (tables_cond c.tree) (tables_scalar v.tree) (is.0 scopes (none_left c.faults v.faults e)) (is.1 scopes (none_right c.faults v.faults e))))
+      (stand_both (cond_tables c.tree) (scalar_tables v.tree) (is.0 scopes (none_left c.faults v.faults e)) (is.1 scopes (none_right c.faults v.faults e))))
 
-  last_fits : (last : Option NamedScalar) → Where FitScalar last → (scopes : Scopes) → faults_if (last_reading tables last scopes) ≡ [] → Stand (if_written (option_map tables_scalar (tree_if (last_reading tables last scopes))))
+  last_fits : (last : Option NamedScalar) → Where FitScalar last → (scopes : Scopes) → faults_if (last_reading tables last scopes) ≡ [] → Stand (if_written (option_map scalar_tables (tree_if (last_reading tables last scopes))))
   last_fits None is scopes e = stand_none
   last_fits (Some v) is scopes e = is scopes e
 
@@ -170,9 +170,9 @@ module _ (tables : Tables) where
       let each : All OfWhenReading rs = all_read (when_reading tables) scopes P OfWhenReading (λ w is. when_fits w is scopes) ws all in
       let unlikes = flat_map (λ (value : ScalarReading). fault_if (differ (first_domain (results_of rs l)) value.domain) 305 value.at) (results_of rs l) in
       subst OfScalar (sym (reading-Case tables at ws last scopes))
-      (λ e. subst Stand (sym (ap tables_scalar (sym (views.rolls-Case (map h rs) (tree_if l))) ∙ tables-Case (map h rs) (tree_if l)))
-      (stand_both (flat_map (λ below. below) (map tables_when (map h rs))) (if_written (option_map tables_scalar (tree_if l)))
-      (stand_each h tables_when rs (each_holds f (λ r. Stand (tables_when (h r))) rs each (none_left (flat_map f rs) (faults_if l) (none_left (flat_map f rs ++ faults_if l) unlikes e))))
+      (λ e. subst Stand (sym (ap scalar_tables (sym (views.rolls-Case (map h rs) (tree_if l))) ∙ tables-Case (map h rs) (tree_if l)))
+      (stand_both (flat_map (λ below. below) (map when_tables (map h rs))) (if_written (option_map scalar_tables (tree_if l)))
+      (stand_each h when_tables rs (each_holds f (λ r. Stand (when_tables (h r))) rs each (none_left (flat_map f rs) (faults_if l) (none_left (flat_map f rs ++ faults_if l) unlikes e))))
       (last_fits last is scopes (none_right (flat_map f rs) (faults_if l) (none_left (flat_map f rs ++ faults_if l) unlikes e)))))
 
   -- ---- conditions
@@ -181,36 +181,36 @@ module _ (tables : Tables) where
   parts_of cs = map (cond_reading tables) cs
 
   parts_fit : (cs : List NamedCond) → All FitCond cs → (scopes : Scopes) → flat_map (λ (part : In CondReading). (part scopes).faults) (parts_of cs) ≡ [] →
-      Stand (flat_map (λ below. below) (map tables_cond (map (λ (part : In CondReading). (part scopes).tree) (parts_of cs))))
+      Stand (flat_map (λ below. below) (map cond_tables (map (λ (part : In CondReading). (part scopes).tree) (parts_of cs))))
   parts_fit cs all scopes e =
       let f : In CondReading → List Fault = λ part. (part scopes).faults in
       let h : In CondReading → SqlCond = λ part. (part scopes).tree in
       let Q : In CondReading → Type 0 = λ part. OfCond (part scopes) in
-      stand_each h tables_cond (parts_of cs) (each_holds f (λ part. Stand (tables_cond (h part))) (parts_of cs) (all_map (cond_reading tables) FitCond Q (λ c is. is scopes) cs all) e)
+      stand_each h cond_tables (parts_of cs) (each_holds f (λ part. Stand (cond_tables (h part))) (parts_of cs) (all_map (cond_reading tables) FitCond Q (λ c is. is scopes) cs all) e)
 
   and_fits : (cs : List NamedCond) → All FitCond cs → FitCond (named_cond.And cs)
   and_fits cs all scopes =
       let trees = map (λ (part : In CondReading). (part scopes).tree) (parts_of cs) in
-      subst OfCond (sym (reading-And tables cs scopes)) (λ e. subst Stand (sym (ap tables_cond (sym (views.rolls-And trees)) ∙ tables-And trees)) (parts_fit cs all scopes e))
+      subst OfCond (sym (reading-And tables cs scopes)) (λ e. subst Stand (sym (ap cond_tables (sym (views.rolls-And trees)) ∙ tables-And trees)) (parts_fit cs all scopes e))
 
   or_fits : (cs : List NamedCond) → All FitCond cs → FitCond (named_cond.Or cs)
   or_fits cs all scopes =
       let trees = map (λ (part : In CondReading). (part scopes).tree) (parts_of cs) in
-      subst OfCond (sym (reading-Or tables cs scopes)) (λ e. subst Stand (sym (ap tables_cond (sym (views.rolls-Or trees)) ∙ tables-Or trees)) (parts_fit cs all scopes e))
+      subst OfCond (sym (reading-Or tables cs scopes)) (λ e. subst Stand (sym (ap cond_tables (sym (views.rolls-Or trees)) ∙ tables-Or trees)) (parts_fit cs all scopes e))
 
   not_fits : (c : NamedCond) → FitCond c → FitCond (named_cond.Not c)
   not_fits c is scopes =
       let t = (cond_reading tables c scopes).tree in
-      subst OfCond (sym (reading-Not tables c scopes)) (λ e. subst Stand (sym (ap tables_cond (sym (views.rolls-Not t)) ∙ tables-Not t)) (is scopes e))
+      subst OfCond (sym (reading-Not tables c scopes)) (λ e. subst Stand (sym (ap cond_tables (sym (views.rolls-Not t)) ∙ tables-Not t)) (is scopes e))
 
   compare_fits : (op : CompareOp) (a b : NamedScalar) → FitScalar a → FitScalar b → FitCond (named_cond.Compare op a b)
   compare_fits op a b is also scopes =
       let r = scalar_reading tables a scopes in
       let s = scalar_reading tables b scopes in
       subst OfCond (sym (reading-Compare tables op a b scopes))
-      (λ e. subst Stand (sym (ap tables_cond (sym (views.rolls-Compare op r.tree s.tree)) ∙ tables-Compare op r.tree s.tree))
+      (λ e. subst Stand (sym (ap cond_tables (sym (views.rolls-Compare op r.tree s.tree)) ∙ tables-Compare op r.tree s.tree))
       (let both = none_left (r.faults ++ s.faults) (unlike r s) e in
-      stand_both (tables_scalar r.tree) (tables_scalar s.tree) (is scopes (none_left r.faults s.faults both)) (also scopes (none_right r.faults s.faults both))))
+      stand_both (scalar_tables r.tree) (scalar_tables s.tree) (is scopes (none_left r.faults s.faults both)) (also scopes (none_right r.faults s.faults both))))
 
   between_fits : (negated : Bool) (a low high : NamedScalar) → FitScalar a → FitScalar low → FitScalar high → FitCond (named_cond.Between negated a low high)
   between_fits negated a low high is from upto scopes =
@@ -218,11 +218,11 @@ module _ (tables : Tables) where
       let s = scalar_reading tables low scopes in
       let t = scalar_reading tables high scopes in
       subst OfCond (sym (reading-Between tables negated a low high scopes))
-      (λ e. subst Stand (sym (ap tables_cond (sym (views.rolls-Between negated r.tree s.tree t.tree)) ∙ tables-Between negated r.tree s.tree t.tree))
+      (λ e. subst Stand (sym (ap cond_tables (sym (views.rolls-Between negated r.tree s.tree t.tree)) ∙ tables-Between negated r.tree s.tree t.tree))
       (let three = none_left (r.faults ++ s.faults ++ t.faults) (unlike r s) (none_left (r.faults ++ s.faults ++ t.faults ++ unlike r s) (unlike r t) e) in
       let two = none_left (r.faults ++ s.faults) t.faults three in
-      stand_both (tables_scalar r.tree ++ tables_scalar s.tree) (tables_scalar t.tree)
-      (stand_both (tables_scalar r.tree) (tables_scalar s.tree) (is scopes (none_left r.faults s.faults two)) (from scopes (none_right r.faults s.faults two))) (upto scopes (none_right (r.faults ++ s.faults) t.faults three))))
+      stand_both (scalar_tables r.tree ++ scalar_tables s.tree) (scalar_tables t.tree)
+      (stand_both (scalar_tables r.tree) (scalar_tables s.tree) (is scopes (none_left r.faults s.faults two)) (from scopes (none_right r.faults s.faults two))) (upto scopes (none_right (r.faults ++ s.faults) t.faults three))))
 
   member_fits : (negated : Bool) (a : NamedScalar) (list : List NamedScalar) → FitScalar a → All FitScalar list → FitCond (named_cond.OneOf negated a list)
   member_fits negated a list is all scopes =
@@ -230,22 +230,22 @@ module _ (tables : Tables) where
       let rs : List (In ScalarReading) = map (scalar_reading tables) list in
       let f : In ScalarReading → List Fault = λ b. (b scopes).faults ++ unlike r (b scopes) in
       let h : In ScalarReading → SqlScalar = λ b. (b scopes).tree in
-      let Q : In ScalarReading → Type 0 = λ b. f b ≡ [] → Stand (tables_scalar (h b)) in
+      let Q : In ScalarReading → Type 0 = λ b. f b ≡ [] → Stand (scalar_tables (h b)) in
       let each : All Q rs = all_map (scalar_reading tables) FitScalar Q (λ b of e. of scopes (none_left (scalar_reading tables b scopes).faults (unlike r (scalar_reading tables b scopes)) e)) list all in
       subst OfCond (sym (reading-OneOf tables negated a list scopes))
-      (λ e. subst Stand (sym (ap tables_cond (sym (views.rolls-OneOf negated r.tree (map h rs))) ∙ tables-OneOf negated r.tree (map h rs)))
-      (stand_both (tables_scalar r.tree) (flat_map (λ below. below) (map tables_scalar (map h rs))) (is scopes (none_left r.faults (flat_map f rs) e))
-      (stand_each h tables_scalar rs (each_holds f (λ b. Stand (tables_scalar (h b))) rs each (none_right r.faults (flat_map f rs) e)))))
+      (λ e. subst Stand (sym (ap cond_tables (sym (views.rolls-OneOf negated r.tree (map h rs))) ∙ tables-OneOf negated r.tree (map h rs)))
+      (stand_both (scalar_tables r.tree) (flat_map (λ below. below) (map scalar_tables (map h rs))) (is scopes (none_left r.faults (flat_map f rs) e))
+      (stand_each h scalar_tables rs (each_holds f (λ b. Stand (scalar_tables (h b))) rs each (none_right r.faults (flat_map f rs) e)))))
 
   null_fits : (negated : Bool) (a : NamedScalar) → FitScalar a → FitCond (named_cond.IsNull negated a)
   null_fits negated a is scopes =
       let t = (scalar_reading tables a scopes).tree in
-      subst OfCond (sym (reading-IsNull tables negated a scopes)) (λ e. subst Stand (sym (ap tables_cond (sym (views.rolls-IsNull negated t)) ∙ tables-IsNull negated t)) (is scopes e))
+      subst OfCond (sym (reading-IsNull tables negated a scopes)) (λ e. subst Stand (sym (ap cond_tables (sym (views.rolls-IsNull negated t)) ∙ tables-IsNull negated t)) (is scopes e))
 
   exists_fits : (q : NamedQuery) → FitQuery q → FitCond (named_cond.Exists q)
   exists_fits q is scopes =
       let r = query_reading tables q scopes in
-      subst OfCond (sym (reading-Exists tables q scopes)) (λ e. subst Stand (sym (ap tables_cond (sym (views.rolls-Exists r.tree)) ∙ tables-Exists r.tree)) (is scopes (inner_none r.at r.first e)))
+      subst OfCond (sym (reading-Exists tables q scopes)) (λ e. subst Stand (sym (ap cond_tables (sym (views.rolls-Exists r.tree)) ∙ tables-Exists r.tree)) (is scopes (inner_none r.at r.first e)))
 
   -- ---- output columns
 
@@ -286,7 +286,7 @@ module _ (tables : Tables) where
   derived_fits q name at is =
       let r = query_reading tables q [] in
       subst OfFrom (sym (reading-Derived tables q name at))
-      (λ e. subst Stand (sym (tables_from_is (record { name = name; source = Derived r.tree }) ∙ (ap tables_source (sym (views.rolls-Derived r.tree)) ∙ tables-Derived r.tree))) (is [] (inner_none r.at r.first e)))
+      (λ e. subst Stand (sym (tables_from_is (record { name = name; source = Derived r.tree }) ∙ (ap source_tables (sym (views.rolls-Derived r.tree)) ∙ tables-Derived r.tree))) (is [] (inner_none r.at r.first e)))
 
   -- the table of this name stands where it is found
   pub found_there : (name : List ℕ) (index : ℕ) → table_place tables name ≡ Some index → IsTableOf tables (record { index = index; name = name; schema = record { columns = columns_of tables index } })
@@ -309,14 +309,14 @@ module _ (tables : Tables) where
   place_fits t (Some index) is e =
       let s : SqlTable = record { index = index; name = t.table; schema = record { columns = columns_of tables index } } in
       let f : SqlFrom = (table_reading tables t (Some index)).tree in
-      subst Stand (sym (tables_from_is f ∙ (ap tables_source (sym (views.rolls-Table s)) ∙ tables-Table s))) (All-cons (IsTableOf tables) s [] (found_there t.table index is) stand_none)
+      subst Stand (sym (tables_from_is f ∙ (ap source_tables (sym (views.rolls-Table s)) ∙ tables-Table s))) (All-cons (IsTableOf tables) s [] (found_there t.table index is) stand_none)
 
   table_fits : (t : FromTree) → FitFrom (named_from.Table t)
   table_fits t = subst OfFrom (sym (reading-Table tables t)) (place_fits t (table_place tables t.table) refl)
 
   -- ---- queries
 
-  filter_fits : (o : Option NamedCond) → Where FitCond o → (scopes : Scopes) → cond_faults tables (filter_reading tables o scopes) ≡ [] → Stand (if_written (option_map tables_cond (cond_tree tables (filter_reading tables o scopes))))
+  filter_fits : (o : Option NamedCond) → Where FitCond o → (scopes : Scopes) → cond_faults tables (filter_reading tables o scopes) ≡ [] → Stand (if_written (option_map cond_tables (cond_tree tables (filter_reading tables o scopes))))
   filter_fits None is scopes e = stand_none
   filter_fits (Some c) is scopes e = is scopes e
 
@@ -339,12 +339,12 @@ module _ (tables : Tables) where
       let later = either_second first (either_spot second third) e in
       let b = first_none output_faults (either_first second third later) in
       let c = first_none (cond_faults tables filter) (either_second second third later) in
-      let columns = stand_each h tables_item outputs (each_holds (λ output. output.faults) (λ output. Stand (tables_item (h output))) outputs (of scopes) b) in
-      let sources = stand_each g tables_from froms (each_holds (λ from. from.faults) (λ from. Stand (tables_from (g from))) froms (all_map (from_reading tables) FitFrom OfFrom (λ f is. is) fs all) a) in
+      let columns = stand_each h item_tables outputs (each_holds (λ output. output.faults) (λ output. Stand (item_tables (h output))) outputs (of scopes) b) in
+      let sources = stand_each g from_tables froms (each_holds (λ from. from.faults) (λ from. Stand (from_tables (g from))) froms (all_map (from_reading tables) FitFrom OfFrom (λ f is. is) fs all) a) in
       let chosen = filter_fits o is scopes c in
       subst Stand (sym (tables_query_is distinct (map h outputs) (map g froms) (cond_tree tables filter) []))
-      (stand_both (flat_map (λ below. below) (map tables_item (map h outputs)) ++ flat_map (λ below. below) (map tables_from (map g froms))) (if_written (option_map tables_cond (cond_tree tables filter)))
-      (stand_both (flat_map (λ below. below) (map tables_item (map h outputs))) (flat_map (λ below. below) (map tables_from (map g froms))) columns sources) chosen))
+      (stand_both (flat_map (λ below. below) (map item_tables (map h outputs)) ++ flat_map (λ below. below) (map from_tables (map g froms))) (if_written (option_map cond_tables (cond_tree tables filter)))
+      (stand_both (flat_map (λ below. below) (map item_tables (map h outputs))) (flat_map (λ below. below) (map from_tables (map g froms))) columns sources) chosen))
 
   -- each way to put parts together keeps that their tables stand
   pub fitting : (most : ℕ) → Closed most FitScalar FitScalar FitCond FitSelect FitFrom FitQuery

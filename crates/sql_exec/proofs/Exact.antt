@@ -38,6 +38,7 @@ use Rattle.sql_exec.specs.Wrapping as wrapping
 use Rattle.sql_exec.proofs.WrappingReads as reads
 use Rattle.sql_exec.proofs.JudgedReads.{judged_from, judged_item, judged_source, judged_item_is, judged_from_is, judged_source-Table, judged_source-Derived, judged-select, layer}
 use Rattle.sql_exec.proofs.Named as named
+use Rattle.sql_tree.proofs.PartTables.{tables-Derived, tables-Table, tables-from}
 use Rattle.sql_exec.proofs.Bounded.{IsWithin}
 use Rattle.sql_exec.proofs.Fitted.{FitsItems, FitsRow, FitsView, entered, kept_fits, no_column, no_rows_fit, none_seen, product_fits, table_fits}
 use Rattle.sql_exec.proofs.ExactParts as each_part
@@ -137,13 +138,13 @@ module _ (tables : Tables) (valid : IsTableSet tables) where
   table_case : (t : SqlTable) → PO (Table t)
   table_case t well there = record {
     same = reads.source_rows-Table tables t ∙ sym (source_rows-Table tables t);
-    fits = rows_at (judged_source-Table t) (source_rows-Table tables t) (table_fits tables t valid (All-head There t [] (subst (All There) (named.of_Table t) there)));
+    fits = rows_at (judged_source-Table t) (source_rows-Table tables t) (table_fits tables t valid (All-head There t [] (subst (All There) (tables-Table t) there)));
   }
 
   derived_case : (q : Q) → PO (Derived q.0)
   derived_case q well there =
       let w = and_parts (judged_query false q.0 []).well (not (judged_query false q.0 []).has_order) (sym (ap (λ (k : JudgedSource). k.well) (judged_source-Derived q.0)) ∙ well) in
-      let e = q.1 [] [] none_seen w.0 (subst (All There) (named.of_Derived q.0) there) in
+      let e = q.1 [] [] none_seen w.0 (subst (All There) (tables-Derived q.0) there) in
       record {
         same = reads.source_rows-Derived tables q.0 ∙ e.same ∙ sym (source_rows-Derived tables q.0);
         fits = rows_at (judged_source-Derived q.0) (source_rows-Derived tables q.0) e.fits;
@@ -164,7 +165,7 @@ module _ (tables : Tables) (valid : IsTableSet tables) where
       let xs : List SqlFrom = map (λ e. e.0) fs in
       let p = and_parts (judged_from f.0).well (list_all (λ (f : JudgedFrom). f.well) (map judged_from xs)) well in
       let q = and_parts (is_name f.0.name) (judged_source f.0.source).well (sym (ap (λ (k : JudgedFrom). k.well) (judged_from_is f.0)) ∙ p.0) in
-      let e = f.1 q.1 (subst (All There) (named.of_from f.0) (named.left There (from_tables f.0) (flat_map from_tables xs) there)) in
+      let e = f.1 q.1 (subst (All There) (tables-from f.0) (named.left There (from_tables f.0) (flat_map from_tables xs) there)) in
       let first = reads.from_rows_is tables f.0 ∙ e.same ∙ sym (from_rows_is tables f.0) in
       let rest = froms_exact fs p.1 (named.right There (from_tables f.0) (flat_map from_tables xs) there) in
       record {

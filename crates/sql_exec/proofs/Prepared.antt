@@ -139,9 +139,6 @@ module _ (tables : Tables) where
   pub ready_none : keeps (And []) ≡ is_kept None
   ready_none = everywhere _ _ (λ scopes. ap is_true (ready.truth-And [] scopes))
 
-  pub ready_some : (source : SqlCond) (made : ReadyCond) → truth made ≡ truth_in tables source → keeps made ≡ is_kept (option_map (truth_in tables) (Some source))
-  ready_some source made same = λ j scopes. is_true (same j scopes)
-
   pub ready_query : (query : SqlQuery) (found : ReadySearch) → found.items ≡ map (from_rows tables) (out-SqlQuery query).from
       → keeps found.test ≡ is_kept (option_map (truth_in tables) (out-SqlQuery query).filter) → kept found ≡ scopes_kept tables query
   ready_query query found same tested = everywhere _ _ (λ scopes.

@@ -2,7 +2,7 @@
 use Rattle.std.proofs.Common.{◌≡◌, ℕ, List, refl}
 use Rattle.prefsql_lexer.specs.declared.token.Token.{Token}
 use Rattle.token_forms.specs.Columns.{column, optional_sign, number_form, literal, op, direction, order, orders}
-use Rattle.token_forms.specs.Phrases.{alias, from as table, distinctness, negation, ordering}
+use Rattle.token_forms.specs.Phrases.{alias, distinctness, negation, ordering}
 use Rattle.token_forms.specs.Plain.{plain}
 use Rattle.sql_parser.specs.Outcome.{outcome}
 
@@ -25,10 +25,6 @@ plain_negation n ts = refl
 pub plain_alias : (n : ℕ) (ts : List Token) → outcome n alias ts ≡ plain alias ts
 unfolding alias
 plain_alias n ts = refl
-
-pub plain_table : (n : ℕ) (ts : List Token) → outcome n table ts ≡ plain table ts
-unfolding alias table
-plain_table n ts = refl
 
 pub plain_distinctness : (n : ℕ) (ts : List Token) → outcome n distinctness ts ≡ plain distinctness ts
 unfolding distinctness

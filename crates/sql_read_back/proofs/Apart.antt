@@ -127,9 +127,6 @@ apart_open ps a tail closes = (refl, tt, tt, a tail closes)
 pub apart_dot : (ps : List Piece) → Apart ps → Apart (mark (SymbolKind symbol.Dot) ∷ ps)
 apart_dot ps a tail closes = (refl, tt, tt, a tail closes)
 
-pub apart_close : Apart (mark (SymbolKind symbol.RightParen) ∷ [])
-apart_close tail closes = (closes (SymbolKind symbol.RightParen), tt, tt, tt)
-
 pub follows_append : (ps qs : List Piece) → Follows ps → Follows qs → Follows (ps ++ qs)
 follows_append ps qs f g tail closes =
     let same : bytes_of (ps ++ qs) ++ tail ≡ bytes_of ps ++ (bytes_of qs ++ tail) = ap (λ bs. bs ++ tail) (bytes_append ps qs) ∙ append_assoc (bytes_of ps) (bytes_of qs) tail in

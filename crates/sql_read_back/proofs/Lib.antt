@@ -21,7 +21,6 @@ pub mod QueriesBack
 pub mod StatementsWritten
 pub mod ReadingBack
 pub mod Depths
-pub mod TablesNamed
 pub mod Nested
 pub mod StatementsNest
 pub mod ToldColumns

@@ -33,7 +33,7 @@ use Rattle.sql_read_back.proofs.Writable.{FineScalar, FineTerm, FineItem, FineFr
 use Rattle.sql_read_back.proofs.FineEquations.{fine-And, fine-Or, fine-Not, fine-Compare, fine-Between, fine-OneOf, fine-IsNull, fine-Exists, fine-Column, fine-Number, fine-Chars, fine-Sum, fine-Case, fine_term_is, fine_when_is, fine_item_is, fine_from_is, fine-Table, fine-Derived, fine_names, fine_query_is}
 use Rattle.sql_read_back.proofs.Judged.{judged_cond, judged_scalar, judged_query, judged_source, judged_from, judged_item, judged_when, judged_term}
 use Rattle.sql_read_back.proofs.JudgedEquations.{judged-And, judged-Or, judged-Not, judged-Compare, judged-Between, judged-OneOf, judged-IsNull, judged-Exists, judged-Column, judged-Number, judged-Chars, judged-Sum, judged-Case, judged_term_is, judged_when_is, judged_item_is, judged_from_is, judged-Table, judged-Derived, judged_parts, judged_query_is, own_items}
-use Rattle.sql_read_back.proofs.TablesNamed.{tables-And, tables-Or, tables-Not, tables-Compare, tables-Between, tables-OneOf, tables-IsNull, tables-Exists, tables-Sum, tables-Case, tables-Table, tables-Derived, tables_from_is, tables_item_is, tables_when_is, tables_term_is, tables_query_is}
+use Rattle.sql_tree.proofs.RolledTables.{tables-And, tables-Or, tables-Not, tables-Compare, tables-Between, tables-OneOf, tables-IsNull, tables-Exists, tables-Sum, tables-Case, tables-Table, tables-Derived, tables_from_is, tables_item_is, tables_when_is, tables_term_is, tables_query_is}
 use Rattle.sql_read_back.proofs.NamesShown.{item_of, shown_names, written_items, fine_names_are, table_names}
 use Rattle.sql_read_back.proofs.ToldColumns.{IsFineView, item_named, IsFound, told_found}
 

@@ -80,12 +80,6 @@ found-Derived tables query name name_at =
 Alike : List (List ℕ) → List (List ℕ) → Type 0
 Alike bs cs = (test : List ℕ → Bool) → list_any test bs ≡ list_any test cs
 
-or_last : (b : Bool) (c : Bool) → (b || (c || false)) ≡ (c || b)
-or_last true true = refl
-or_last true false = refl
-or_last false true = refl
-or_last false false = refl
-
 or_swap : (a b c : Bool) → (a || (b || c)) ≡ (b || (a || c))
 or_swap true true c = refl
 or_swap true false c = refl

@@ -1,5 +1,5 @@
 -- What the view of a base preference shows is what its rank is written from.
-use Rattle.std.proofs.Common.{◌≡◌, ℕ, ◌+◌, ◌<◌, ◌≤◌, ℤ, max, true, List, [], ◌∷◌, ◌++◌, length, get_or, take, map, filter, nat_eq, All, refl, sym, ap, ◌∙◌, subst, arith, inl, inr}
+use Rattle.std.proofs.Common.{◌≡◌, ℕ, ◌+◌, ◌<◌, ◌≤◌, max, true, List, [], ◌∷◌, ◌++◌, length, get_or, take, map, filter, nat_eq, All, refl, sym, ap, ◌∙◌, subst, arith, inl, inr}
 use Rattle.std.specs.Borrow.{Bor}
 use Rattle.std.specs.Prelude.{IfOk, Result, Ok, Err}
 use Rattle.std.specs.List.{range_with_len}
@@ -8,13 +8,12 @@ use Rattle.std.proofs.lemmas.List.FromFn.{map-range_with_len_more}
 use Rattle.std.proofs.lemmas.List.{get_or-map, length-map, take-map}
 use Rattle.std.proofs.lemmas.List.Elements.{All-head, All-tail, All-weaker}
 use Rattle.prefsql_values.specs.Limits.{IsLiteralValue}
-use Rattle.prefsql_values.specs.declared.value.CompareOp.TheVariants.{Lt, Gt}
 use Rattle.prefsql_values.specs.declared.value.Value.{Value}
 use Rattle.order_laws.proofs.Members.{Among, Contains_from_among}
 use Rattle.base_prefs.specs.declared.edge.Edge.{Edge}
 use Rattle.base_prefs.specs.declared.edge.ValueSet.{ValueSet}
 use Rattle.base_prefs.specs.declared.kind.Kind.{Kind}
-use Rattle.base_prefs.specs.declared.kind.Kind.TheVariants.{Pos, Neg, PosPos, PosNeg, Layered, Explicit, Around, Between, Lowest, Highest}
+use Rattle.base_prefs.specs.declared.kind.Kind.TheVariants.{Pos, Neg, PosPos, PosNeg, Layered, Explicit}
 use Rattle.base_prefs.specs.declared.view.BaseView.TheVariants as view
 use Rattle.base_prefs.specs.Graph.{graph_height, graph_level, graph_values, greatest}
 use Rattle.base_prefs.specs.Kind.{edges_of, is_explicit}
@@ -26,10 +25,9 @@ use Rattle.base_prefs.proofs.Heights.{greatest_number_more, height_le}
 use Rattle.base_prefs.proofs.KindMeaning.{is_in-Decides}
 use Rattle.base_prefs.proofs.SetLaws.{layers_few}
 use Rattle.pref_terms.specs.TermLaws.{All-first, All-second}
-use Rattle.sql_tree.specs.declared.tree.SqlCond.{Compare}
-use Rattle.sql_tree.specs.declared.tree.SqlScalar.{SqlScalar, Number}
+use Rattle.sql_tree.specs.declared.tree.SqlScalar.{SqlScalar}
 use Rattle.sql_tree.specs.declared.tree.SqlWhen.{SqlWhen}
-use Rattle.rewritten_query.specs.Leaves.{cases, greatest_level, is_among, less, level_when, level_whens, number, rank_scalar, set_whens, when_so}
+use Rattle.rewritten_query.specs.Leaves.{cases, greatest_level, is_among, level_when, level_whens, number, rank_scalar, set_whens, when_so}
 
 pub ok_weaker : {X E : Type 0} (P Q : X → Type 0) (r : Result X E) → ((x : X) → P x → Q x) → IfOk r P → IfOk r Q
 ok_weaker P Q (Ok x) h p = h x p
@@ -105,24 +103,6 @@ shown_Explicit (Explicit g) values is sound = (
     some_values [] h = absurd (omega arith)
     some_values (e ∷ edges) h = omega arith
 shown_Explicit kind values is sound = absurd is
-
-pub shown_Around : (kind : Kind) (z : ℤ) → IsViewOf (view.Around z) kind
-    → (x : SqlScalar) → cases (when_so (Compare Lt x (Number z)) (less (Number z) x) ∷ []) (less x (Number z)) ≡ rank_scalar kind x
-shown_Around (Around center) z is x = ap (λ c. cases (when_so (Compare Lt x (Number c)) (less (Number c) x) ∷ []) (less x (Number c))) is
-shown_Around kind z is x = absurd is
-
-pub shown_Between : (kind : Kind) (low up : ℤ) → IsViewOf (view.Between low up) kind
-    → (x : SqlScalar) → cases (when_so (Compare Lt x (Number low)) (less (Number low) x) ∷ when_so (Compare Gt x (Number up)) (less x (Number up)) ∷ []) (number 0) ≡ rank_scalar kind x
-shown_Between (Between l u) low up is x = λ j. cases (when_so (Compare Lt x (Number (is.0 j))) (less (Number (is.0 j)) x) ∷ when_so (Compare Gt x (Number (is.1 j))) (less x (Number (is.1 j))) ∷ []) (number 0)
-shown_Between kind low up is x = absurd is
-
-pub shown_Lowest : (kind : Kind) → IsViewOf view.Lowest kind → (x : SqlScalar) → x ≡ rank_scalar kind x
-shown_Lowest Lowest is x = refl
-shown_Lowest kind is x = absurd is
-
-pub shown_Highest : (kind : Kind) → IsViewOf view.Highest kind → (x : SqlScalar) → x ≡ rank_scalar kind x
-shown_Highest Highest is x = refl
-shown_Highest kind is x = absurd is
 
 -- ---- levels are small
 

@@ -11,7 +11,6 @@ use Rattle.std.proofs.lemmas.Bool.{false≢true}
 use Rattle.std.proofs.lemmas.Bool.Decides.{Decides-int_eq, same_from_decides}
 use Rattle.std.proofs.lemmas.Int.{ints}
 use Rattle.std.proofs.lemmas.List.Elements.{All-head, All-tail}
-use Rattle.prefsql_values.specs.declared.truth.Truth.{Truth}
 use Rattle.prefsql_values.specs.declared.value.CompareOp.{CompareOp}
 use Rattle.prefsql_values.specs.declared.value.CompareOp.TheVariants.{Eq}
 use Rattle.prefsql_values.specs.declared.value.Value.{Value}
@@ -80,9 +79,6 @@ module _ (tables : Tables) (scopes : Scopes) (column : ColumnPlace → SqlScalar
 
   abbrev IsPut : Cond → Type 0
   IsPut c = All IsRead (scalars_of c) → truth_in tables (cond_put column quality c) scopes ≡ truth sight c
-
-  abbrev as_put : Cond → Truth
-  as_put c = truth_in tables (cond_put column quality c) scopes
 
   list_read : (list : List Scalar) → All IsRead list → map (λ b. value_in tables b scopes) (map (scalar_put column quality) list) ≡ map (scalar_value sight) list
   list_read [] all = refl

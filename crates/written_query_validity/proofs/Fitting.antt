@@ -33,7 +33,8 @@ use Rattle.rewritten_query.specs.Names.{candidates_name, of_tables, rival_name, 
 use Rattle.rewritten_query.specs.Rankings.{group_cond, ranking_of}
 use Rattle.rewritten_query.specs.Rewriting.{and_only, auxiliary_query, best_cond, best_query, only_cond, output_items, own_place, own_quality, plain_query, quality_of_tables, rewritten, rewritten_by, rival_conds, rivals_query, table_item, table_items, where_over_tables}
 use Rattle.written_query_validity.proofs.NamedParts.{InCond, InScalar, Only, better_in, both, both_in, code_in, column_in, conjunction_in, each, group_in, not_in, number_in, puts_in, rank_in, scalar_in}
-use Rattle.written_query_validity.proofs.TablesRead.{from_tables_are, item_tables_are, tables_each, tables-Derived, tables-Exists, tables-Table, tables-select}
+use Rattle.written_query_validity.proofs.TablesRead.{tables-select}
+use Rattle.sql_tree.proofs.PartTables.{tables-Derived, tables-Exists, tables-Table, tables-from, tables-item}
 
 -- the table as FROM of the written query names it
 abbrev named : FromTable → SqlTable
@@ -57,21 +58,21 @@ module _ (G : SqlTable → Type 0) where
       → InQuery (select distinct items from filter order)
   query_in distinct items from filter order items_in froms_in filter_in =
       subst (Only G) (sym (tables-select distinct items from filter order))
-      (both G (tables_each item_tables items ++ tables_each from_tables from) (if_written (option_map cond_tables filter))
-      (both G (tables_each item_tables items) (tables_each from_tables from)
-      (each G item_tables items (λ item there. subst (Only G) (sym (item_tables_are item)) (items_in item there)))
+      (both G (flat_map item_tables items ++ flat_map from_tables from) (if_written (option_map cond_tables filter))
+      (both G (flat_map item_tables items) (flat_map from_tables from)
+      (each G item_tables items (λ item there. subst (Only G) (sym (tables-item item)) (items_in item there)))
       (each G from_tables from froms_in))
       filter_in)
 
   derived_in : (name : List ℕ) (query : SqlQuery) → InQuery query → (f : SqlFrom) → Among (record { name = name; source = Derived query } ∷ []) f → InFrom f
-  derived_in name query query_is f (inl is) = subst InFrom is (subst (Only G) (sym (from_tables_are (record { name = name; source = Derived query }))) (subst (Only G) (sym (tables-Derived query)) query_is))
+  derived_in name query query_is f (inl is) = subst InFrom is (subst (Only G) (sym (tables-from (record { name = name; source = Derived query }))) (subst (Only G) (sym (tables-Derived query)) query_is))
   derived_in name query query_is f (inr past) = absurd past
 
   -- ---- the FROM tables
 
   table_in : (n : ℕ) (table : FromTable) → G (named table) → InFrom (table_item n table)
   table_in n table is =
-      subst (Only G) (sym (from_tables_are (table_item n table))) (subst (Only G) (sym (tables-Table (named table))) (λ t there. elim there [ inl same ↦ subst G same is | inr past ↦ absurd past ]))
+      subst (Only G) (sym (tables-from (table_item n table))) (subst (Only G) (sym (tables-Table (named table))) (λ t there. elim there [ inl same ↦ subst G same is | inr past ↦ absurd past ]))
 
   tables_in : (n : ℕ) (from : List FromTable) → ((table : FromTable) → Among from table → G (named table)) → (f : SqlFrom) → Among (table_items n from) f → InFrom f
   tables_in n [] are f there = absurd there

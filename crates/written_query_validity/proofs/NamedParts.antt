@@ -1,6 +1,6 @@
 -- What holds of each table that the parts of a written query name. Its scalars and conditions name none, but for EXISTS.
 use Rattle.std.proofs.Common.{ℤ, pos, ℕ, ◌+◌, Bool, true, false, cond, Some, None, List, [], ◌∷◌, ◌++◌, map, length, refl, sym, subst, inl, inr}
-use Rattle.std.specs.List.{range_with_len}
+use Rattle.std.specs.List.{flat_map, range_with_len}
 use Rattle.std.specs.Option.{option_map}
 use Rattle.prefsql_values.specs.declared.value.CompareOp.{CompareOp}
 use Rattle.prefsql_values.specs.declared.value.CompareOp.TheVariants.{Eq, Lt, Gt}
@@ -36,7 +36,7 @@ use Rattle.rewritten_query.specs.Rankings.{Ranking, admits_null, code_part, code
 use Rattle.rewritten_query.specs.Columns.{number_among, rank_column}
 use Rattle.rewritten_query.proofs.ConditionReads.{put, put-And, put-Or, put-Not, put-Compare, put-Between, put-OneOf, put-IsNull, put-Top}
 use Rattle.rewritten_query.proofs.RankingReads.{better-Pareto, better-Prior, ranking_of-Leaf, same-Pareto, same-Prior}
-use Rattle.written_query_validity.proofs.TablesRead.{tables_each, tables-And, tables-Or, tables-Not, tables-Compare, tables-Between, tables-OneOf, tables-IsNull, tables-Column, tables-Number, tables-Chars, tables-Sum, tables-Case, term_tables_are, when_tables_are}
+use Rattle.sql_tree.proofs.PartTables.{tables-And, tables-Between, tables-Case, tables-Chars, tables-Column, tables-Compare, tables-IsNull, tables-Not, tables-Number, tables-OneOf, tables-Or, tables-Sum, tables-term, tables-when}
 
 module _ (G : SqlTable → Type 0) where
   -- it holds of each table of the list
@@ -49,9 +49,9 @@ module _ (G : SqlTable → Type 0) where
   pub both : (xs ys : List SqlTable) → Only xs → Only ys → Only (xs ++ ys)
   both xs ys first second table there = elim (among_either xs ys table there) [ inl early ↦ first table early | inr late ↦ second table late ]
 
-  pub each : {X : Type 0} (tables : X → List SqlTable) (parts : List X) → ((part : X) → Among parts part → Only (tables part)) → Only (tables_each tables parts)
+  pub each : {X : Type 0} (tables : X → List SqlTable) (parts : List X) → ((part : X) → Among parts part → Only (tables part)) → Only (flat_map tables parts)
   each tables [] all = none
-  each tables (part ∷ parts) all = both (tables part) (tables_each tables parts) (all part (inl refl)) (each tables parts (λ other there. all other (inr there)))
+  each tables (part ∷ parts) all = both (tables part) (flat_map tables parts) (all part (inl refl)) (each tables parts (λ other there. all other (inr there)))
 
   abbrev pub InScalar : SqlScalar → Type 0
   InScalar s = Only (scalar_tables s)
@@ -81,14 +81,14 @@ module _ (G : SqlTable → Type 0) where
       let second : SumTerm = record { minus = true; scalar = b } in
       subst Only (sym (tables-Sum (first ∷ second ∷ [])))
       (both (term_tables first) (term_tables second ++ [])
-      (subst Only (sym (term_tables_are first)) a_in)
-      (both (term_tables second) [] (subst Only (sym (term_tables_are second)) b_in) none))
+      (subst Only (sym (tables-term first)) a_in)
+      (both (term_tables second) [] (subst Only (sym (tables-term second)) b_in) none))
 
   when_in : (c : SqlCond) (value : SqlScalar) → InCond c → InScalar value → Only (when_tables (when_so c value))
-  when_in c value c_in value_in = subst Only (sym (when_tables_are (when_so c value))) (both (cond_tables c) (scalar_tables value) c_in value_in)
+  when_in c value c_in value_in = subst Only (sym (tables-when (when_so c value))) (both (cond_tables c) (scalar_tables value) c_in value_in)
 
   cases_in : (whens : List SqlWhen) (last : SqlScalar) → ((w : SqlWhen) → Among whens w → Only (when_tables w)) → InScalar last → InScalar (cases whens last)
-  cases_in whens last all last_in = subst Only (sym (tables-Case whens (Some last))) (both (tables_each when_tables whens) (scalar_tables last) (each when_tables whens all) last_in)
+  cases_in whens last all last_in = subst Only (sym (tables-Case whens (Some last))) (both (flat_map when_tables whens) (scalar_tables last) (each when_tables whens all) last_in)
 
   -- ---- conditions
 
@@ -116,7 +116,7 @@ module _ (G : SqlTable → Type 0) where
   compare_in op a b a_in b_in = subst Only (sym (tables-Compare op a b)) (both (scalar_tables a) (scalar_tables b) a_in b_in)
 
   one_of_in : (negate : Bool) (a : SqlScalar) (list : List SqlScalar) → InScalar a → ((b : SqlScalar) → Among list b → InScalar b) → InCond (OneOf negate a list)
-  one_of_in negate a list a_in all = subst Only (sym (tables-OneOf negate a list)) (both (scalar_tables a) (tables_each scalar_tables list) a_in (each scalar_tables list all))
+  one_of_in negate a list a_in all = subst Only (sym (tables-OneOf negate a list)) (both (scalar_tables a) (flat_map scalar_tables list) a_in (each scalar_tables list all))
 
   between_in : (negate : Bool) (a low high : SqlScalar) → InScalar a → InScalar low → InScalar high → InCond (sql.Between negate a low high)
   between_in negate a low high a_in low_in high_in =

@@ -1,4 +1,4 @@
--- The tables that each part of a query names, by those of the parts below it.
+-- The tables that each form of a part names, as the fold rolls it, by those of the parts below it.
 use Rattle.std.proofs.Common.{◌≡◌, ℕ, ℤ, Bool, rules, Option, Some, None, List, [], ◌∷◌, ◌++◌, map}
 use Rattle.std.specs.List.{flat_map}
 use Rattle.sql_tree.specs.Fits.{cond_tables, scalar_tables, source_tables, from_tables, item_tables, when_tables, term_tables, tables_of, if_written, cond_step, scalar_step, source_step, from_step, item_step, query_step, when_step, term_step}
