@@ -2,6 +2,7 @@
 use Rattle.std.proofs.Common.{◌≡◌, ℕ, ◌+◌, ◌<◌, ◌≤◌, min, true, List, [], ◌∷◌, length, get_or, map, filter, All, refl, sym, ap, ◌∙◌, subst, arith}
 use Rattle.std.specs.Ordering.{on}
 use Rattle.std.proofs.Math.Nat.{mul-le-mul_left}
+use Rattle.std.proofs.lemmas.List.{length-map}
 use Rattle.std.proofs.lemmas.List.Elements.{Contains-get_or}
 use Rattle.std.proofs.lemmas.List.FromFn.{length-range_with_len}
 use Rattle.prefsql_tables.specs.Table.{rows_of}
@@ -14,6 +15,7 @@ use Rattle.pref_terms.specs.Terms.{grouped_order, leaves_of, shown}
 use Rattle.pref_terms.specs.declared.term.Term.{Term}
 use Rattle.query_meaning.specs.Answers.{row_counts}
 use Rattle.query_meaning.specs.Asking.{IsAsked}
+use Rattle.query_meaning.proofs.ChoiceLemmas.{length-choice}
 use Rattle.query_meaning.specs.Choices.{IsChoice}
 use Rattle.query_meaning.specs.Valid.{block_leaves}
 use Rattle.query_meaning.specs.declared.asking.Asked.{Asked}
@@ -26,10 +28,11 @@ use Rattle.plan_algebra.specs.declared.plan.Plan.{Plan, Filter, Join, Best}
 use Rattle.plan_algebra.specs.declared.plan.Plan as plan
 use Rattle.native_plan.specs.Asking.{CanAskAll, holds_all, sees}
 use Rattle.native_plan.specs.Combos.{pair, single}
+use Rattle.native_plan.specs.Joining.{AllEndAt}
 use Rattle.native_plan.specs.Finding.{IsBestOf, IsFoundBy, IsPartOf, StandsOver, found_in, last_count, passing_rows, tested_in}
 use Rattle.native_plan.specs.declared.finding.FoundRows.{FoundRows}
 use Rattle.native_plan.proofs.Nodes.{bound-Best, bound-Filter, bound-Join, floor-Best, floor-Filter, floor-Join, floor-Scan, found-Best, found-Filter, found-Join, found-Scan, nodes-Scan}
-use Rattle.native_plan.proofs.Parts.{below_best, best_ranks, can_ask, few_leaves, judged}
+use Rattle.native_plan.proofs.Parts.{below_best, best_ranks, can_ask, few_leaves, judged, left_part, right_begins, right_part}
 use Rattle.native_plan.proofs.Rows.{are_rows, first_is, scanned_table, single_choice}
 
 pub all_from : {X : Type 0} (P : X → Type 0) (xs : List X) → ((x : X) → Among xs x → P x) → All P xs
@@ -274,3 +277,28 @@ module _ (asked : Asked) (is : IsAsked asked) where
                 let wide = mul-le-mul_left of.added width in
                 omega (arith, most_below, most_here, wide, sum, tests, h);
           }
+
+-- ---- where the parts of a join meet
+
+module _ (asked : Asked) (left right : Plan) (part : IsPartOf asked.block.now (Join left right)) where
+  abbrev left_tables : List ℕ
+  left_tables = (nodes_of left).tables
+
+  -- a row of a part of a plan has one row for each of its tables
+  row_length : (combo : Combo) → Among (found_in asked left).combos combo → length combo.rows ≡ length left_tables
+  row_length combo a =
+      length-choice (map (λ t. get_or (row_counts asked.tables.now asked.block.now.from) t 0) left_tables) combo.rows (are_rows asked.tables.now asked.block.now left combo a)
+      ∙ length-map left_tables (λ t. get_or (row_counts asked.tables.now asked.block.now.from) t 0)
+
+  pub join_ends : (before between after : ℕ) (lefts rights : FoundRows) → IsFoundBy asked left [] before between lefts → IsFoundBy asked right [] between after rights
+      → AllEndAt lefts.first rights.first lefts.combos.items
+  join_ends before between after lefts rights first second =
+      let on_left = left_part asked.block.now left right part in
+      let on_right = right_part asked.block.now left right part in
+      let left_first : lefts.first ≡ on_left.first = first.first ∙ first_is asked.tables.now asked.block.now left on_left.first on_left.count on_left.tables in
+      let right_first : rights.first ≡ on_right.first = second.first ∙ first_is asked.tables.now asked.block.now right on_right.first on_right.count on_right.tables in
+      all_from (λ (combo : Combo). lefts.first + length combo.rows ≡ rights.first) lefts.combos.items (λ combo a.
+      let given : Among (found_in asked left).combos combo = subst (λ (combos : List Combo). Among combos combo) (first.combos ∙ filter_true (λ c. true) (found_in asked left).combos (λ c. refl)) a in
+      let long = row_length combo given in
+      let meet = right_begins asked.block.now left right part in
+      omega (arith, left_first, right_first, long, meet))

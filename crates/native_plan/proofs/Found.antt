@@ -24,9 +24,10 @@ use Rattle.plan_algebra.specs.declared.plan.Plan.{Plan, Filter, Join, Best}
 use Rattle.plan_algebra.specs.declared.plan.Plan as plan
 use Rattle.native_plan.specs.Asking.{CanAskAll, holds_all}
 use Rattle.native_plan.specs.Combos.{pair, single}
+use Rattle.native_plan.specs.Joining.{AllEndAt}
 use Rattle.native_plan.specs.Finding.{IsBestOf, IsFoundBy, IsPartOf, StandsOver, last_count}
 use Rattle.native_plan.specs.declared.finding.FoundRows.{FoundRows}
-use Rattle.native_plan.proofs.Arms.{all_from, best_askable, best_found, best_judged, filter_askable, filter_found, join_askable, join_found, scan_askable, scan_found, scan_there}
+use Rattle.native_plan.proofs.Arms.{all_from, best_askable, best_found, best_judged, filter_askable, filter_found, join_askable, join_ends, join_found, scan_askable, scan_found, scan_there}
 use Rattle.native_plan.proofs.Parts.{below_best, below_filter, filter_stands, left_part, right_part}
 use Rattle.native_plan.proofs.Rows.{are_rows}
 
@@ -58,6 +59,11 @@ module _ (block : Block) (whole : Plan) (part : IsPartOf block whole) where
 
   pub part_of_best : (t : Term) (groups : List ColumnPlace) (p : Plan) → whole ≡ Best t groups p → IsPartOf block p
   part_of_best t groups p is = below_best block t groups p (subst (IsPartOf block) is part)
+
+-- each row of the left part of a join ends where those of the right part begin
+pub ends_of_join : (asked : Asked) (whole : Plan) (part : IsPartOf asked.block.now whole) (l r : Plan) → whole ≡ Join l r → (before between after : ℕ) (lefts rights : FoundRows)
+    → IsFoundBy asked l [] before between lefts → IsFoundBy asked r [] between after rights → AllEndAt lefts.first rights.first lefts.combos.items
+ends_of_join asked whole part l r same = join_ends asked l r (subst (IsPartOf asked.block.now) same part)
 
 -- ---- what can be asked, and what is found
 

@@ -109,6 +109,11 @@ module _ (block : Block) where
       bests = All-second (RanksAt block) (nodes_of left).bests (nodes_of right).bests (subst (λ (n : Nodes). All (RanksAt block) n.bests) (nodes-Join left right) part.bests);
     }
 
+    -- the right part begins behind the tables of the left one
+    pub right_begins : right_part.first ≡ left_part.first + length lefts
+    unfolding left_part right_part
+    right_begins = refl
+
 -- ---- what can be asked
 
 slice_among : {X : Type 0} (xs : List X) (i : ℕ) (x : X) → slice_get xs i ≡ Some x → Among xs x

@@ -1,3 +1,4 @@
 pub mod Asking
 pub mod Combos
 pub mod Finding
+pub mod Joining

@@ -37,7 +37,7 @@ fn holds_at(asked: &Asked<'_>, conjunct: Conjunct, first: u32, combo: &Combo) ->
 }
 
 /// The condition at the position.
-fn cond_at(block: &Block, conjunct: Conjunct) -> Option<&Cond>
+pub(crate) fn cond_at(block: &Block, conjunct: Conjunct) -> Option<&Cond>
     ensures { option_copied result ≡ cond_of block.now conjunct }
 {
     match conjunct {

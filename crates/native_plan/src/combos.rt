@@ -42,7 +42,7 @@ fn single(alloc: Global, row: u32) -> Result<Combo, Memory>
 }
 
 /// Adds the combination where each condition is True.
-fn add(
+pub(crate) fn add(
     asked: &Asked<'_>,
     conjuncts: &[Conjunct],
     first: u32,
@@ -105,7 +105,7 @@ fn add_pairs(
 }
 
 /// The rows of both combinations.
-fn joined(alloc: Global, left: &Combo, right: &Combo) -> Result<Combo, Memory>
+pub(crate) fn joined(alloc: Global, left: &Combo, right: &Combo) -> Result<Combo, Memory>
     ensures { IfOk result (λ combo. combo ≡ pair left.now right.now) }
 {
     let mut rows = Vec::new(alloc);

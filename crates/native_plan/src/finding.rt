@@ -6,9 +6,12 @@ ghost use Rattle.query_meaning.specs.Asking.{IsAsked};
 ghost use Rattle.query_meaning.specs.Valid.{block_leaves};
 ghost use Rattle.native_plan.specs.Asking.{CanAskAll, holds_all};
 ghost use Rattle.native_plan.specs.Combos.{pair, single};
+ghost use Rattle.native_plan.specs.Joining.{AllEndAt};
 ghost use Rattle.native_plan.specs.Finding.{IsBestOf, IsFoundBy, IsPartOf, StandsOver, last_count, rows_at};
 
 use crate::combos::{kept, pairs, singles};
+use crate::equating::equated_columns;
+use crate::joining::pairs_by_value;
 use plan_algebra::{Conjunct, Plan};
 use plan_groups::best_of_groups;
 use pref_terms::{BoundTerm, Term};
@@ -114,7 +117,8 @@ fn keep(
     })
 }
 
-/// The pairs for which each condition is True.
+/// The pairs for which each condition is True. Where one of the conditions asks for equal values in
+/// a column of each part, the pairs are found by their values.
 fn join(
     alloc: Global,
     asked: &Asked<'_>,
@@ -122,7 +126,8 @@ fn join(
     rights: FoundRows,
     conjuncts: &[Conjunct],
 ) -> Result<FoundRows, Memory>
-    requires { All (λ left. All
+    requires ends { AllEndAt lefts.first rights.first lefts.combos.items }
+    requires askable { All (λ left. All
         (λ right. CanAskAll asked.now conjuncts.now lefts.first (pair left right))
         rights.combos.items) lefts.combos.items }
     ensures first { IfOk result (λ found. found.first ≡ lefts.first) }
@@ -132,19 +137,45 @@ fn join(
     ensures tests { IfOk result
         (λ found. found.tests ≡ min (lefts.tests + rights.tests) last_count) }
 {
-    let combos = pairs(
-        alloc,
-        asked,
-        conjuncts,
-        lefts.first,
-        lefts.combos.as_slice(),
-        rights.combos.as_slice(),
-    )?;
+    let combos = joined_pairs(alloc, asked, &lefts, &rights, conjuncts)?;
     Ok(FoundRows {
         first: lefts.first,
         combos,
         tests: lefts.tests.saturating_add(rights.tests),
     })
+}
+
+/// The pairs for which each condition is True.
+fn joined_pairs(
+    alloc: Global,
+    asked: &Asked<'_>,
+    lefts: &FoundRows,
+    rights: &FoundRows,
+    conjuncts: &[Conjunct],
+) -> Result<Vec<Combo>, Memory>
+    requires ends { AllEndAt lefts.now.first rights.now.first lefts.now.combos.items }
+    requires askable { All (λ left. All
+        (λ right. CanAskAll asked.now conjuncts.now lefts.now.first (pair left right))
+        rights.now.combos.items) lefts.now.combos.items }
+    ensures { IfOk result
+        (λ combos. combos.items ≡ filter (holds_all asked.now conjuncts.now lefts.now.first)
+        (pairs_of lefts.now.combos.items rights.now.combos.items)) }
+{
+    let first = lefts.first;
+    let middle = rights.first;
+    let lefts = lefts.combos.as_slice();
+    let rights = rights.combos.as_slice();
+    if lefts.is_empty() || rights.is_empty() {
+        return pairs(alloc, asked, conjuncts, first, lefts, rights);
+    }
+    match equated_columns(asked.block, conjuncts, middle) {
+        Some(columns) => {
+            pairs_by_value(
+                alloc, asked, conjuncts, columns, first, middle, lefts, rights,
+            )
+        }
+        None => pairs(alloc, asked, conjuncts, first, lefts, rights),
+    }
 }
 
 /// The rows that no row of their group is better than.

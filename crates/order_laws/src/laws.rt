@@ -1,10 +1,12 @@
-//! Four laws of the best items of a list. Their calls do nothing: what each says is its contract.
+//! Laws of the best items of a list. Their calls do nothing: what each says is its contract.
 //! The best items of a list are those that no item of it is better than, in their order.
-ghost use Rattle.std.specs.Prelude.{◌≡◌, Bool, All, filter};
+ghost use Rattle.std.specs.Prelude.{◌≡◌, ◌++◌, Bool, All, filter};
 ghost use Rattle.order_laws.specs.Best.{best, IsNarrowerAmong, IsKeptUpwardsAmong, KeepsBestAmong, RanksWhatIsBetterAmong};
 ghost use Rattle.order_laws.specs.Combine.{prior_better};
+ghost use Rattle.order_laws.specs.Parts.{HoldsBest, bests_of_parts, end_to_end};
 
 use crate::preference::Preference;
+use prefsql_values::List;
 
 /// A condition on items, by which some are kept.
 pub trait Keep {
@@ -60,4 +62,29 @@ pub fn cascade_law<P: Preference, Q: Preference<Item = P::Item>>(p: &P, q: &Q, i
         (Q.better q.now) }
     ensures { best (prior_better (P.better p.now) (P.same p.now) (Q.better q.now)) items.now
         ≡ best (Q.better q.now) (best (P.better p.now) items.now) }
+{}
+
+/// Where some of the items are held and among them each best one, the best of these are the best of
+/// all. So it does not count what else is held.
+pub fn held_law<P: Preference>(p: &P, items: &[P::Item], held: &[P::Item])
+    requires valid { All (P.valid p.now) items.now }
+    requires holds_best { HoldsBest (P.better p.now) items.now held.now }
+    ensures { best (P.better p.now) held.now ≡ best (P.better p.now) items.now }
+{}
+
+/// The best of two lists' best items are the best of both lists.
+pub fn joined_law<P: Preference>(p: &P, front: &[P::Item], back: &[P::Item])
+    requires front_valid { All (P.valid p.now) front.now }
+    requires back_valid { All (P.valid p.now) back.now }
+    ensures { best (P.better p.now)
+        (best (P.better p.now) front.now ++ best (P.better p.now) back.now)
+        ≡ best (P.better p.now) (front.now ++ back.now) }
+{}
+
+/// The best of the parts' best items are the best of the whole, however many parts there are. So
+/// each part may be asked by itself.
+pub fn parts_law<P: Preference>(p: &P, parts: &[List<P::Item>])
+    requires valid { All (P.valid p.now) (end_to_end parts.now) }
+    ensures { best (P.better p.now) (bests_of_parts (P.better p.now) parts.now)
+        ≡ best (P.better p.now) (end_to_end parts.now) }
 {}

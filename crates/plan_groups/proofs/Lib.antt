@@ -1,7 +1,11 @@
 pub mod GroupRuns
 pub mod GroupSteps
+pub mod JumpLaws
 pub mod Keys
+pub mod LeafAdds
 pub mod Marked
+pub mod OutcomeLaws
 pub mod Placing
+pub mod RowKeys
 pub mod Runs
 pub mod Whole

@@ -1,5 +1,9 @@
 pub mod Counts
+pub mod Firsts
 pub mod Groups
+pub mod Jumps
 pub mod Marks
 pub mod Members
-pub mod PlaceLaws
+pub mod Outcomes
+pub mod RankLaws
+pub mod Ranks

@@ -5,11 +5,13 @@ ghost use Rattle.std.specs.Ordering.{on};
 ghost use Rattle.order_laws.specs.Best.{best};
 ghost use Rattle.pref_terms.specs.Terms.{grouped_order, is_same_group, leaves_of, order_of};
 ghost use Rattle.plan_groups.specs.Counts.{within_groups};
-ghost use Rattle.plan_groups.specs.Groups.{IsRow, seen_at};
+ghost use Rattle.plan_groups.specs.Groups.{IsJudged, IsRow, seen_at};
 ghost use Rattle.plan_groups.specs.Members.{HasGroupOf, by_group, place_of};
 
+use crate::jumps::ranked_leaves;
+use crate::leaf_keys::keys_of_rows;
 use crate::members::{Member, run_length};
-use crate::places::AtPlaces;
+use crate::ranked::RankedRows;
 use pref_terms::BoundTerm;
 use prefsql_tables::Combo;
 use prefsql_values::{Memory, Steps};
@@ -32,6 +34,7 @@ pub(crate) fn best_places<L: Ledger>(
     members: &[Member<'_>],
     steps: &mut Steps<L>,
 ) -> Result<Kept, Memory>
+    requires judged { All (IsJudged bound.now) combos.now }
     requires rows { All (IsRow bound.now combos.now) (map place_of members.now) }
     requires groups { All (HasGroupOf bound.now combos.now) members.now }
     requires sorted { IsSorted by_group members.now }
@@ -50,12 +53,20 @@ pub(crate) fn best_places<L: Ledger>(
     ensures most_steps { IfOk result (λ kept. kept.tests < 2 ^ 64 - 1
         → steps.new ≤ steps.old + kept.tests * length (leaves_of bound.now.term.now)) }
 {
+    let leaves = ranked_leaves(alloc, bound, combos)?;
+    let keys = keys_of_rows(alloc, bound, combos, leaves.len())?;
+    let rows = RankedRows {
+        bound,
+        combos,
+        keys,
+        leaves,
+    };
     let mut places = Vec::new(alloc);
     let mut tests: u64 = 0;
     let mut at = 0;
     while at < members.len() {
         let end = at + run_length(&members[at..]);
-        let added = add_best(alloc, bound, combos, &members[at..end], &mut places, steps)?;
+        let added = add_best(alloc, &rows, &members[at..end], &mut places, steps)?;
         tests = tests.saturating_add(added);
         at = end;
     }
@@ -66,40 +77,29 @@ pub(crate) fn best_places<L: Ledger>(
 /// took.
 fn add_best<L: Ledger>(
     alloc: Global,
-    bound: &BoundTerm<'_>,
-    combos: &[Combo],
+    rows: &RankedRows<'_>,
     members: &[Member<'_>],
     places: &mut Vec<usize>,
     steps: &mut Steps<L>,
 ) -> Result<u64, Memory>
-    requires { All (IsRow bound.now combos.now) (map place_of members.now) }
+    requires { All (IsRow rows.now.bound.now rows.now.combos.now) (map place_of members.now) }
     ensures exact { OnOk result (places.new.items ≡ places.old.items
-        ++ best (on (seen_at bound.now combos.now) ((order_of bound.now.term.now).better))
-        (map place_of members.now)) }
+        ++ best (on (seen_at rows.now.bound.now rows.now.combos.now)
+        ((order_of rows.now.bound.now.term.now).better)) (map place_of members.now)) }
     ensures least_tests { IfOk result
         (λ tests. length members.now
-        ≤ tests + length (best (on (seen_at bound.now combos.now)
-        ((order_of bound.now.term.now).better)) (map place_of members.now))) }
+        ≤ tests + length (best (on (seen_at rows.now.bound.now rows.now.combos.now)
+        ((order_of rows.now.bound.now.term.now).better)) (map place_of members.now))) }
     ensures most_tests { IfOk result
         (λ tests. tests ≤ length members.now
-        * length (best (on (seen_at bound.now combos.now) ((order_of bound.now.term.now).better))
-        (map place_of members.now))) }
+        * length (best (on (seen_at rows.now.bound.now rows.now.combos.now)
+        ((order_of rows.now.bound.now.term.now).better)) (map place_of members.now))) }
     ensures least_steps { IfOk result (λ tests. steps.old + tests ≤ steps.new) }
     ensures most_steps { IfOk result (λ tests. tests < 2 ^ 64 - 1
-        → steps.new ≤ steps.old + tests * length (leaves_of bound.now.term.now)) }
+        → steps.new ≤ steps.old + tests * length (leaves_of rows.now.bound.now.term.now)) }
 {
-    let rows = AtPlaces {
-        bound: BoundTerm {
-            tables: bound.tables,
-            from: bound.from,
-            first: bound.first,
-            term: bound.term,
-            groups: &[],
-        },
-        combos,
-    };
     let group = places_of(alloc, members)?;
-    let chosen = best_of(alloc, &rows, group, steps)?;
+    let chosen = best_of(alloc, rows, group, steps)?;
     places.extend_from_slice(chosen.items.as_slice())?;
     Ok(chosen.tests)
 }

@@ -3,9 +3,12 @@
 #![tactic(auto)]
 
 mod best;
+mod jumps;
 mod kept;
+mod leaf_keys;
+mod leaf_tests;
 mod marks;
 mod members;
-mod places;
+mod ranked;
 
 pub use best::best_of_groups;

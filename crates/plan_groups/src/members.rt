@@ -35,7 +35,7 @@ pub(crate) fn members<'t>(
         (λ members. map place_of members.items ≡ range_with_len 0 (length combos.now)) }
     ensures groups { IfOk result (λ members. All (HasGroupOf bound.now combos.now) members.items) }
 {
-    let mut members = Vec::new(alloc);
+    let mut members = Vec::with_capacity(alloc, combos.len())?;
     for (place, combo) in combos.iter().enumerate() {
         members.push(Member {
             place,
@@ -55,7 +55,7 @@ fn group_key<'t>(
     ensures { IfOk result
         (λ key. map value_of key.items ≡ map (seen_by bound.now combo.now) bound.now.groups.now) }
 {
-    let mut key = Vec::new(alloc);
+    let mut key = Vec::with_capacity(alloc, bound.groups.len())?;
     for place in bound.groups {
         let cell = cell_in_sight(*place, bound.tables, bound.from, bound.first, combo);
         key.push(cell)?;

@@ -1,8 +1,10 @@
--- A text that is UTF-8 has a list of tokens or a first fault.
-use Rattle.std.proofs.Common.{◌≡◌, ℕ, suc, zero, ◌+◌, ◌<◌, ◌≤◌, false, List, [], ◌∷◌, drop, length, get_or, Option, Some, None, inl, inr, ◌⊎◌, refl, subst, arith}
-use Rattle.std.specs.Str.{IsUtf8}
+-- A text has a list of tokens or a first fault.
+use Rattle.std.proofs.Common.{◌≡◌, ◌∙◌, ℕ, suc, zero, ◌+◌, ◌<◌, ◌≤◌, Bool, true, false, List, [], ◌∷◌, drop, length, get_or, Option, Some, None, inl, inr, ◌⊎◌, refl, sym, subst, arith}
+use Rattle.std.specs.Str.{IsUtf8, is_utf8}
+use Rattle.std.specs.Str.Lossy.{utf8_valid_len}
 use Rattle.std.proofs.lemmas.List.{length-drop, length-take-le}
-use Rattle.std.proofs.lemmas.Bool.{cases_lt}
+use Rattle.std.proofs.lemmas.Bool.{cases_lt, false≢true}
+use Rattle.std.proofs.lemmas.Str.{IsUtf8-from_is_utf8, is_utf8-from_IsUtf8}
 use Rattle.prefsql_lexer.specs.declared.fault.Spot.{Spot}
 use Rattle.prefsql_lexer.specs.declared.token.Token.{Token}
 use Rattle.prefsql_lexer.specs.declared.token.TokenKind.{TokenKind}
@@ -65,13 +67,17 @@ answer_of limit depth at (suc fuel) text small =
       | inr all ↦ ends limit depth at text all
     ]
 
-pub tokens_or_first_fault : (limit : ℕ) (text : List ℕ) → IsUtf8 text →
-    ((tokens : List Token) × IsTokens limit text tokens) ⊎ ((spot : Spot) × IsFirstFault limit text spot)
-tokens_or_first_fault limit text utf8 =
-    let answer = answer_of limit 0 0 (length text) text (omega arith) in
-    settle answer.0 answer.1 answer.2
+pub tokens_or_first_fault : (limit : ℕ) (text : List ℕ) → ((tokens : List Token) × IsTokens limit text tokens) ⊎ ((spot : Spot) × IsFirstFault limit text spot)
+tokens_or_first_fault limit text = by_bytes (is_utf8 text) refl
   where
-    settle : (tokens : List Token) (end : Option Spot) → Lexed limit 0 0 text tokens end →
-        ((tokens : List Token) × IsTokens limit text tokens) ⊎ ((spot : Spot) × IsFirstFault limit text spot)
-    settle tokens None lexed = inl (tokens, (utf8, lexed))
-    settle tokens (Some spot) lexed = inr (spot, inr (utf8, (tokens, lexed)))
+    settle : IsUtf8 text → (tokens : List Token) (end : Option Spot) → Lexed limit 0 0 text tokens end → ((tokens : List Token) × IsTokens limit text tokens) ⊎ ((spot : Spot) × IsFirstFault limit text spot)
+    settle utf8 tokens None lexed = inl (tokens, (utf8, lexed))
+    settle utf8 tokens (Some spot) lexed = inr (spot, inr (utf8, (tokens, lexed)))
+
+    by_bytes : (utf8 : Bool) → is_utf8 text ≡ utf8 → ((tokens : List Token) × IsTokens limit text tokens) ⊎ ((spot : Spot) × IsFirstFault limit text spot)
+    by_bytes true good =
+        let answer = answer_of limit 0 0 (length text) text (omega arith) in
+        settle (IsUtf8-from_is_utf8 text good) answer.0 answer.1 answer.2
+    by_bytes false bad =
+        let spot : Spot = record { code = 107; at = utf8_valid_len text } in
+        inr (spot, inl (λ utf8. false≢true (sym bad ∙ is_utf8-from_IsUtf8 text utf8), refl, refl))

@@ -46,6 +46,20 @@ fn answers_of_queries(rt: HostRuntime) -> Result<(), Fail> {
             "SELECT id FROM cars WHERE id = 1 AND EXISTS (SELECT 1 FROM cars a, cars b, cars c, cars d, cars e, cars f, cars g, cars h, cars i, cars j, cars k, cars l, cars m, cars n, cars o, cars p, cars q, cars r, cars s, cars t)",
             "ID\n1\n\n",
         ),
+        // as many, of which none passes, and this is told by the first car
+        (
+            "SELECT a.id FROM cars a, cars b, cars c, cars d, cars e, cars f, cars g, cars h, cars i, cars j, cars k, cars l, cars m, cars n, cars o, cars p, cars q, cars r, cars s, cars t WHERE a.color IS NULL AND a.color IS NOT NULL",
+            "ID\n\n",
+        ),
+        // a missing dealer is equal to none
+        (
+            "SELECT c.id, d.id AS other FROM cars c, cars d WHERE c.dealer = d.dealer AND c.id < d.id",
+            "ID,OTHER\n1,2\n\n",
+        ),
+        (
+            "SELECT id FROM cars c WHERE NOT EXISTS (SELECT 1 FROM dealers WHERE c.dealer = name AND EXISTS (SELECT 1 FROM cars WHERE dealer = name AND id = c.id))",
+            "ID\n4\n5\n\n",
+        ),
     ] {
         let case = Case {
             words: &["execute", "CARS=cars.csv", "DEALERS=dealers.csv"],

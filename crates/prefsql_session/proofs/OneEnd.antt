@@ -16,7 +16,7 @@ use Rattle.query_meaning.specs.declared.block.Block.{Block}
 use Rattle.query_tree.specs.declared.query.QueryTree.{QueryTree}
 use Rattle.prefsql_session.specs.Course.{Comes, GoesOn, HasOneEnd, ScriptComesTo}
 use Rattle.query_typing.specs.Typing.{AreTyped, IsFirstOfScript}
-use Rattle.prefsql_session.proofs.TypingLaws.{one_blocks, one_typing_fault, typing_apart}
+use Rattle.query_typing.proofs.OneAnswer.{one_blocks, one_typing_fault, typing_apart}
 use Rattle.prefsql_session.specs.Opening.{Job, bench_of, over, opening}
 use Rattle.prefsql_session.specs.ScriptEnd.{AsksFor, HasFault, HasQueryFault, IsScriptFault, IsScriptWork, IsWork}
 use Rattle.prefsql_session.specs.declared.work.Work.{Work}

@@ -15,7 +15,7 @@ use Rattle.table_csv.specs.FileTable.{file_table}
 use Rattle.table_csv.specs.declared.fault.TableSpot.{TableSpot}
 use Rattle.prefsql_session.specs.Opening.{as_table, file_fault, file_stage, has_repeated, is_among, table_of_bytes, table_stage, tables_after, tables_stage}
 use Rattle.prefsql_session.specs.Parts.{Opens}
-use Rattle.prefsql_session.specs.Stage.{Stage, untold, barred, unaccepted, missing, faulty, ready, and_then, barred_if, ready_or, MayGive, MayHaveFault}
+use Rattle.prefsql_session.specs.Stage.{Stage, untold, barred, unaccepted, missing, faulty, ready, and_then, barred_if, ready_or, IsTold, MayGive, MayHaveFault}
 use Rattle.prefsql_session.specs.declared.command.TableWord.{TableWord}
 use Rattle.prefsql_session.specs.declared.fault.Fault.{Fault}
 use Rattle.prefsql_session.specs.declared.fault.Stop.{Stop}
@@ -54,7 +54,7 @@ Opens-then_err missing next (Refused fault) is = absurd is
 Opens-then_err (faulty first) next (Refused fault) is = is
 Opens-then_err (ready found) next (Refused fault) is = absurd is
 
-barred_if-false : {T : Type 0} (s : Stage T) → barred_if false s ≡ s
+pub barred_if-false : {T : Type 0} (s : Stage T) → barred_if false s ≡ s
 barred_if-false untold = refl
 barred_if-false barred = refl
 barred_if-false unaccepted = refl
@@ -77,10 +77,6 @@ Opens-barred true (ready value) (Refused fault) is = absurd is
 
 -- ---- one table
 
-abbrev IsTold : {T : Type 0} → Stage T → Type 0
-IsTold untold = ⊥
-IsTold other = Unit {0}
-
 told_as : (name : List ℕ) (r : Result TableData TableSpot) → IsTold (as_table name r)
 told_as name (Ok table) = tt
 told_as name (Err spot) = tt
@@ -97,7 +93,7 @@ told_table : (name : List ℕ) (among : Bool) (s : Stage TableData) → IsTold s
 told_table name true s is = tt
 told_table name false s is = is
 
-told_stage : (files : Option Files) (before : List (List ℕ)) (word : TableWord) → IsSome files → IsTold (table_stage files before word)
+pub told_stage : (files : Option Files) (before : List (List ℕ)) (word : TableWord) → IsSome files → IsTold (table_stage files before word)
 told_stage None before word known = absurd (cc)
 told_stage (Some held) before word known =
     told_table word.name (is_among before word.name) (and_then (file_stage (Some held) word.path) (table_of_bytes word.name))

@@ -32,6 +32,10 @@ GoesOn (ready (over task tables)) (Some text) end = ScriptComesTo task tables te
 abbrev pub Comes : List (List ℕ) → Option Files → Option (List ℕ) → Stage Work → Type 0
 Comes words files script end = GoesOn (opening words files) script end
 
--- a run comes to one end
+-- a run comes to at most one end
 abbrev pub HasOneEnd : (Stage Work → Type 0) → Type 0
 HasOneEnd Course = (one other : Stage Work) → Course one → Course other → one ≡ other
+
+-- a run comes to an end
+abbrev pub HasAnEnd : (Stage Work → Type 0) → Type 0
+HasAnEnd Course = (end : Stage Work) × Course end

@@ -6,7 +6,8 @@ use Rattle.prefsql_bench.specs.BenchTable.{bench_set}
 use Rattle.prefsql_bench.specs.Statements.{bench_blocks}
 use Rattle.prefsql_io.specs.Counts.{Rose}
 use Rattle.prefsql_io.specs.Streams.{AppendsLess}
-use Rattle.prefsql_session.specs.Counts.{AreFirstLinesOf, AreLinesOf, Takes, told_lines}
+use Rattle.prefsql_session.specs.Counts.{AreFirstLinesOf, AreLinesOf, AreTestCounts, Takes}
+use Rattle.prefsql_session.specs.Counts.{told_lines}
 use Rattle.prefsql_session.specs.Faults.{fault_line, usage_line}
 use Rattle.prefsql_session.specs.Opening.{Job, over}
 use Rattle.prefsql_session.specs.Stage.{Stage, untold, barred, unaccepted, missing, faulty, ready}
@@ -62,6 +63,18 @@ abbrev pub IsDueSoFarAt : Stage Work → List ℕ → Type 0
 IsDueSoFarAt (ready work) lines = IsDueSoFar work lines
 IsDueSoFarAt end lines = IsDueAt end lines
 
+-- the tests of each query that the work answers can be counted, within the bounds of its plan
+abbrev pub HasCounts : Work → Type 0
+HasCounts (Statements (Answer tells) tables blocks) =
+    (tests : List ℕ) × AreTestCounts tables blocks tests
+HasCounts (Bench count) = (tests : List ℕ) × AreTestCounts (bench_set count) bench_blocks tests
+HasCounts work = ⊤
+
+-- so it is at the end of a run, where it is work
+abbrev pub HasCountsAt : Stage Work → Type 0
+HasCountsAt (ready work) = HasCounts work
+HasCountsAt end = ⊤
+
 -- the texts of the work were written, so much was appended to `err`, and so many steps were made:
 -- an answer is counted, and its count is told where it is to be
 abbrev pub Finishes : Work → Option (List ℕ) → Option (List ℕ) → ℕ → ℕ → Type 0
@@ -78,6 +91,14 @@ abbrev pub FinishesAt : Stage Work → Option (List ℕ) → Option (List ℕ) �
 FinishesAt untold old new before after = ⊤
 FinishesAt (ready work) old new before after = Finishes work old new before after
 FinishesAt end old new before after = ⊥
+
+-- the status of a run that comes to this end, where no device fails and memory is granted
+abbrev pub HasStatus : Stage Work → Status → Type 0
+HasStatus unaccepted Usage = ⊤
+HasStatus missing ShelfFault = ⊤
+HasStatus (faulty fault) Refused = ⊤
+HasStatus (ready work) Done = ⊤
+HasStatus end status = ⊥
 
 -- it is told, and has a defined text
 abbrev pub IsGood : Stage Work → Type 0

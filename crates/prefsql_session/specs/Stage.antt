@@ -47,3 +47,9 @@ MayHaveFault untold fault = ⊤
 MayHaveFault barred fault = ⊤
 MayHaveFault (faulty first) fault = first ≡ fault
 MayHaveFault end fault = ⊥
+
+-- what it comes to is told
+abbrev pub IsTold : {T : Type 0} → Stage T → Type 0
+IsTold untold = ⊥
+IsTold barred = ⊥
+IsTold end = ⊤

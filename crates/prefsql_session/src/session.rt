@@ -1,12 +1,13 @@
-ghost use Rattle.std.specs.Prelude.{◌≡◌, ◌⊎◌, IsTrue};
+ghost use Rattle.std.specs.Prelude.{◌≡◌, ◌⊎◌, IsSome, IsTrue};
 ghost use Rattle.std.specs.Io.KnownBytes.{IsAtEnd};
 ghost use Rattle.prefsql_io.specs.Counts.{Rose, IsQuiet};
 ghost use Rattle.prefsql_session.specs.CommandLine.{accepted};
-ghost use Rattle.prefsql_session.specs.Course.{Comes, HasOneEnd};
+ghost use Rattle.prefsql_session.specs.Course.{Comes, HasAnEnd, HasOneEnd};
 ghost use Rattle.prefsql_session.specs.Faults.{fault_line, usage_line};
 ghost use Rattle.prefsql_session.specs.Opening.{opening};
-ghost use Rattle.prefsql_session.specs.Stage.{missing};
+ghost use Rattle.prefsql_session.specs.Stage.{IsTold, Stage, missing};
 ghost use Rattle.prefsql_session.specs.Written.{IsWrittenAt};
+ghost use Rattle.prefsql_session.specs.declared.work.Work.{Work};
 
 use crate::fault::{Fault, Stop, USAGE};
 use crate::fault_line::fault_line;
@@ -38,7 +39,7 @@ pub enum Status {
 }
 
 ghost use Rattle.prefsql_session.specs.Parts.{WritesLine};
-ghost use Rattle.prefsql_session.specs.Run.{AsksForScript, AtEnd, EndsAt, FallsShort, FinishesAt, IsDueSoFarOf, IsGood, IsTextOf, WritesDue, WritesText};
+ghost use Rattle.prefsql_session.specs.Run.{AsksForScript, AtEnd, EndsAt, FallsShort, FinishesAt, HasCountsAt, HasStatus, IsDueSoFarOf, IsGood, IsTextOf, WritesDue, WritesText};
 
 // Writes these bytes. Where they can't be written, that is how the run ends.
 fn put<O: Sink>(sink: &mut O, bytes: &[u8], status: Status) -> Status
@@ -97,10 +98,19 @@ pub fn run<S: Source, O: Sink, E: Sink, H: Shelf, L: Ledger>(
     // What stands on `out` and on `err` then.
     ensures text { WritesText (Comes words.now (H.files shelf.old) (S.left script.old)) result
         (O.written out.old) (O.written out.new) }
-    ensures one_end { HasOneEnd (Comes words.now (H.files shelf.old) (S.left script.old)) }
     ensures due { WritesDue (Comes words.now (H.files shelf.old) (S.left script.old))
         (accepted words.now) result
         (E.written err.old) (E.written err.new) }
+
+    // The course comes to exactly one end, which is told where the files and the script are. The
+    // work that it may be needs no more tests than it may take.
+    ensures an_end { HasAnEnd (Comes words.now (H.files shelf.old) (S.left script.old)) }
+    ensures one_end { HasOneEnd (Comes words.now (H.files shelf.old) (S.left script.old)) }
+    ensures told_end { IsSome (H.files shelf.old) → IsSome (S.left script.old)
+        → AtEnd (Comes words.now (H.files shelf.old) (S.left script.old)) IsTold }
+    ensures countable { AtEnd (Comes words.now (H.files shelf.old) (S.left script.old))
+        HasCountsAt }
+
     ensures read_whole { result ≡ Status.Done → AsksForScript (accepted words.now)
         → IsAtEnd (S.left script.new) }
     ensures unread { (AsksForScript (accepted words.now) → ⊥)
@@ -136,6 +146,16 @@ pub fn run<S: Source, O: Sink, E: Sink, H: Shelf, L: Ledger>(
         → (O.faults out.new ≡ O.faults out.old) × (E.faults err.new ≡ E.faults err.old) }
     ensures shelf_kept { (result ≡ Status.ShelfFault → ⊥)
         → H.faults shelf.new ≡ H.faults shelf.old }
+
+    // Where no device fails, a run whose end is told has the status of that end, or memory was not
+    // granted.
+    ensures decided { (end : Stage Work)
+        → Comes words.now (H.files shelf.old) (S.left script.old) end → IsTold end
+        → IsQuiet (S.faults script.old) (S.faults script.new)
+        → IsQuiet (O.faults out.old) (O.faults out.new)
+        → IsQuiet (E.faults err.old) (E.faults err.new)
+        → IsTrue (H.sure shelf.old) ⊎ IsQuiet (H.faults shelf.old) (H.faults shelf.new)
+        → HasStatus end result ⊎ (result ≡ Status.Memory) }
 
     // A run without a fault is done, where memory is granted.
     ensures complete { AtEnd (Comes words.now (H.files shelf.old) (S.left script.old)) IsGood

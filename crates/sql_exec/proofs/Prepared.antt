@@ -1,6 +1,6 @@
 -- What is made ready means what it was made of.
 use Rattle.std.proofs.Common.{◌≡◌, ℤ, ℕ, Bool, true, false, Option, Some, None, List, [], ◌∷◌, map, cond, refl, sym, ap, ◌∙◌}
-use Rattle.std.specs.List.{filter, list_any}
+use Rattle.std.specs.List.{list_any}
 use Rattle.std.specs.Option.{option_map}
 use Rattle.std.proofs.lemmas.Simd.{map-map}
 use Rattle.prefsql_values.specs.declared.value.CompareOp.{CompareOp}
@@ -9,7 +9,6 @@ use Rattle.prefsql_values.specs.Truth.{negated, negated_if, all_true, any_true, 
 use Rattle.prefsql_values.specs.Value.{comparison, between, one_of, is_null, truth_of}
 use Rattle.prefsql_tables.specs.declared.table.AnswerRow.{AnswerRow}
 use Rattle.prefsql_tables.specs.Distinct.{each_once}
-use Rattle.prefsql_tables.specs.Product.{product}
 use Rattle.prefsql_tables.specs.Table.{Tables, rows_of}
 use Rattle.prefsql_tables.proofs.ListLemmas.{list_any-map}
 use Rattle.sql_tree.specs.declared.tree.SqlPlace.{SqlPlace}
@@ -24,7 +23,7 @@ use Rattle.sql_tree.specs.declared.tree.SqlSource as source_of
 use Rattle.sql_tree.specs.declared.tree.SqlTable.{SqlTable}
 use Rattle.sql_tree.specs.declared.tree.SqlWhen.{SqlWhen}
 use Rattle.sql_tree.specs.declared.tree.SumTerm.{SumTerm}
-use Rattle.sql_tree.specs.Meaning.{Scopes, is_kept, else_value, or_else, first_some}
+use Rattle.sql_tree.specs.Meaning.{Scopes, else_value, or_else, first_some}
 use Rattle.sql_exec.specs.Wrapping as meaning
 use Rattle.sql_exec.specs.Wrapping.{truth_in, value_in, rows_in, from_rows, source_rows, item_value, term_value, wrapped_sign, wrapped_sum}
 use Rattle.sql_exec.proofs.WrappingReads.{truth_in-And, truth_in-Or, truth_in-Not, truth_in-Compare, truth_in-Between, truth_in-OneOf, truth_in-IsNull, truth_in-Exists, value_in-Column, value_in-Number, value_in-Chars, value_in-Sum, value_in-Case, when_value_is, term_value_is, item_value_is, rows_in_is, from_rows_is, source_rows-Table, source_rows-Derived}
@@ -33,7 +32,7 @@ use Rattle.sql_exec.specs.declared.ready.ReadyScalar.{ReadyScalar, Column, Const
 use Rattle.sql_exec.specs.declared.ready.ReadySearch.{ReadySearch}
 use Rattle.sql_exec.specs.declared.ready.ReadyWhen.{ReadyWhen}
 use Rattle.sql_exec.specs.Preparing.{rows_selected, scopes_kept}
-use Rattle.sql_exec.specs.Ready.{keeps, kept, row_of, truth, value, when_value}
+use Rattle.sql_exec.specs.Ready.{kept, row_of, truth, value, when_value}
 use Rattle.sql_exec.proofs.ReadyReads as ready
 
 -- the same for all scopes
@@ -89,7 +88,7 @@ module _ (tables : Tables) where
       ready.truth-IsNull negate x scopes ∙ (λ j. negated_if negate (truth_of (is_null (at_a j scopes))))
       ∙ sym (truth_in-IsNull tables negate a scopes) ∙ ap (λ c. truth_in tables c scopes) (sym is))
 
-  any_row : (query : SqlQuery) (scopes : Scopes) → list_any (λ _. true) (rows_in tables query scopes) ≡ list_any (λ _. true) (scopes_kept tables query scopes)
+  pub any_row : (query : SqlQuery) (scopes : Scopes) → list_any (λ _. true) (rows_in tables query scopes) ≡ list_any (λ _. true) (scopes_kept tables query scopes)
   any_row query scopes =
       ap (list_any (λ _. true)) (rows_in_is tables query scopes)
       ∙ any_once (out-SqlQuery query).distinct (rows_selected tables query scopes)
@@ -135,14 +134,6 @@ module _ (tables : Tables) where
   pub ready_plus : (source : SumTerm) (scalar : ReadyScalar) → source.minus ≡ false → value scalar ≡ value_in tables source.scalar → value scalar ≡ term_value tables source
   ready_plus source scalar plus same = everywhere _ _ (λ scopes.
       (λ j. same j scopes) ∙ sym (ap (λ b. wrapped_sign b (value_in tables source.scalar scopes)) plus) ∙ sym (term_value_is tables source scopes))
-
-  pub ready_none : keeps (And []) ≡ is_kept None
-  ready_none = everywhere _ _ (λ scopes. ap is_true (ready.truth-And [] scopes))
-
-  pub ready_query : (query : SqlQuery) (found : ReadySearch) → found.items ≡ map (from_rows tables) (out-SqlQuery query).from
-      → keeps found.test ≡ is_kept (option_map (truth_in tables) (out-SqlQuery query).filter) → kept found ≡ scopes_kept tables query
-  ready_query query found same tested = everywhere _ _ (λ scopes.
-      ready.kept_is found scopes ∙ (λ j. filter (λ scope. tested j (scope ∷ scopes)) (product (same j))))
 
   pub ready_rows : (query : SqlQuery) (found : ReadySearch) (items : List ReadyScalar) → kept found ≡ scopes_kept tables query → map value items ≡ map (item_value tables) (out-SqlQuery query).items
       → map (λ scope. row_of items (scope ∷ [])) (kept found []) ≡ rows_selected tables query []

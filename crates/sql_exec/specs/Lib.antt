@@ -1,6 +1,11 @@
-pub mod Choices
+pub mod Forms
+pub mod Keys
+pub mod Planned
 pub mod Preparing
+pub mod Reach
 pub mod Ready
 pub mod RowKeys
 pub mod Seen
+pub mod Steps
+pub mod Walks
 pub mod Wrapping

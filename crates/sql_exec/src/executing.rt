@@ -17,7 +17,9 @@ use std::alloc::Global;
 ///
 /// Needs a well-formed query, and tables that it fits. The bounds of the numbers of such a query
 /// are far below the range of those that the sums are computed in, so no sum wraps. A derived table
-/// is computed once, EXISTS stops at its first row, and no product of FROM items is stored.
+/// is computed once, EXISTS stops at its first row, and no product of FROM items is stored: each
+/// condition that AND joins is judged as soon as the rows are chosen that it speaks of, and rows with
+/// an equal value are found by it.
 pub fn execute(alloc: Global, query: &SqlQuery, tables: &TableSet) -> Result<Answer, Memory>
     requires formed { IsWellFormed query.now }
     requires fits { FitsTables tables.now query.now }

@@ -1,23 +1,30 @@
 //! Makes queries ready to be run: each table that a query names is laid out, and each derived table
 //! is computed, once.
-ghost use Rattle.std.specs.Prelude.{◌≡◌, [], ◌∷◌, map, All, IfOk};
-ghost use Rattle.std.specs.List.{flat_map};
+ghost use Rattle.std.specs.Prelude.{◌≡◌, true, false, [], ◌∷◌, map, All, IfOk, OnOk};
+ghost use Rattle.std.specs.List.{flat_map, list_all};
 ghost use Rattle.std.specs.Option.{option_map};
-ghost use Rattle.prefsql_tables.specs.Table.{rows_of};
+ghost use Rattle.prefsql_tables.specs.Table.{Tables, rows_of};
+ghost use Rattle.prefsql_values.specs.Value.{value_eq};
 ghost use Rattle.sql_tree.specs.Fits.{FitsTables, IsTableOf, cond_tables, from_tables, if_written, item_tables, scalar_tables, term_tables, when_tables};
-ghost use Rattle.sql_tree.specs.Meaning.{Scopes, else_value, is_kept};
+ghost use Rattle.sql_tree.specs.Meaning.{else_value, is_kept, place_value};
+ghost use Rattle.prefsql_values.specs.Truth.{is_true};
+ghost use Rattle.sql_exec.specs.Planned.{JudgesToo, item_count};
 ghost use Rattle.sql_exec.specs.Preparing.{rows_selected, scopes_kept};
-ghost use Rattle.sql_exec.specs.Ready.{keeps, kept, row_of, truth, value, when_value};
+ghost use Rattle.sql_exec.specs.Ready.{kept, row_of, truth, value, when_value};
+ghost use Rattle.sql_exec.specs.RowKeys.{is_found};
 ghost use Rattle.sql_exec.specs.Wrapping.{from_rows, item_value, rows_in, source_rows, term_value, truth_in, value_in, when_value as sql_when_value};
 
+use crate::alike::{alike_places, is_equality};
 use crate::distinct::once;
 use crate::gathering::gather;
 use crate::laid_out::table_rows;
+use crate::reach::{cond_reach, place_reach, scalar_reach};
 use crate::ready::{ReadyCond, ReadyScalar, ReadySearch, ReadyWhen};
+use crate::steps::StepPlan;
 use prefsql_tables::{AnswerRow, TableSet};
 use prefsql_values::{Boxed, List, Memory, Value};
 use sql_tree::{
-    SqlCond, SqlFrom, SqlItem, SqlQuery, SqlScalar, SqlSource, SqlTable, SqlWhen, SumTerm,
+    SqlCond, SqlFrom, SqlItem, SqlPlace, SqlQuery, SqlScalar, SqlSource, SqlTable, SqlWhen, SumTerm,
 };
 use std::alloc::Global;
 
@@ -61,7 +68,7 @@ fn ready_cond(alloc: Global, cond: &SqlCond, tables: &TableSet) -> Result<ReadyC
             Ok(ReadyCond::IsNull(*negate, a))
         }
         SqlCond::Exists(query) => {
-            let search = ready_search(alloc, query.get(), tables)?;
+            let search = ready_search(alloc, query.get(), tables, false)?;
             Ok(ReadyCond::Exists(Boxed::new(alloc, search)?))
         }
     }
@@ -226,20 +233,193 @@ fn ready_item(alloc: Global, item: &SqlItem, tables: &TableSet) -> Result<ReadyS
     ready_scalar(alloc, &item.value, tables)
 }
 
-/// A WHERE made ready, and a condition that is True where it is not written.
+/// Judges each part of a condition, which AND joins, as soon as that can be done.
 #[cycle(preparing)]
-fn ready_filter(
+fn judge(
+    alloc: Global,
+    cond: &SqlCond,
+    tables: &TableSet,
+    plan: &mut StepPlan,
+) -> Result<(), Memory>
+    requires { All (IsTableOf tables.now) (cond_tables cond.now) }
+    ensures count { OnOk result (item_count plan.new ≡ item_count plan.old) }
+    ensures judged { OnOk result (JudgesToo
+        (λ scope scopes. is_true (truth_in tables.now cond.now (scope ∷ scopes))) plan.old plan.new) }
+{
+    match cond {
+        SqlCond::And(parts) => judge_all(alloc, parts.as_slice(), tables, plan),
+        _ => judge_one(alloc, cond, tables, plan),
+    }
+}
+
+/// Judges each of the conditions as soon as that can be done.
+#[cycle(preparing)]
+fn judge_all(
+    alloc: Global,
+    conds: &[SqlCond],
+    tables: &TableSet,
+    plan: &mut StepPlan,
+) -> Result<(), Memory>
+    requires { All (IsTableOf tables.now) (flat_map cond_tables conds.now) }
+    ensures count { OnOk result (item_count plan.new ≡ item_count plan.old) }
+    ensures judged { OnOk result (JudgesToo (λ scope scopes. list_all
+        (λ cond. is_true (truth_in tables.now cond (scope ∷ scopes))) conds.now) plan.old plan.new) }
+{
+    for cond in conds {
+        judge(alloc, cond, tables, plan)?;
+    }
+    Ok(())
+}
+
+/// Judges a condition as soon as the items are chosen that it speaks of, or finds rows by it.
+#[cycle(preparing)]
+fn judge_one(
+    alloc: Global,
+    cond: &SqlCond,
+    tables: &TableSet,
+    plan: &mut StepPlan,
+) -> Result<(), Memory>
+    requires { All (IsTableOf tables.now) (cond_tables cond.now) }
+    ensures count { OnOk result (item_count plan.new ≡ item_count plan.old) }
+    ensures judged { OnOk result (JudgesToo
+        (λ scope scopes. is_true (truth_in tables.now cond.now (scope ∷ scopes))) plan.old plan.new) }
+{
+    if find_by(alloc, cond, tables, plan)? {
+        return Ok(());
+    }
+    let ready = ready_cond(alloc, cond, tables)?;
+    plan.judge(cond_reach(cond, 0), ready)
+}
+
+/// Finds the rows of an item by a condition that says what one of its columns is equal to, where
+/// that can be told before. It is false, and the plan as it was, where no item is found so.
+#[cycle(preparing)]
+fn find_by(
+    alloc: Global,
+    cond: &SqlCond,
+    tables: &TableSet,
+    plan: &mut StepPlan,
+) -> Result<bool, Memory>
+    requires { All (IsTableOf tables.now) (cond_tables cond.now) }
+    ensures count { OnOk result (item_count plan.new ≡ item_count plan.old) }
+    ensures found { IfOk result (λ found. found ≡ true → JudgesToo
+        (λ scope scopes. is_true (truth_in tables.now cond.now (scope ∷ scopes))) plan.old plan.new) }
+    ensures none { IfOk result (λ found. found ≡ false → plan.new ≡ plan.old) }
+{
+    match cond {
+        SqlCond::Compare(op, a, b) => {
+            if !is_equality(*op) {
+                return Ok(false);
+            }
+            if find_by_column(alloc, b, a, tables, plan)? {
+                return Ok(true);
+            }
+            find_by_column(alloc, a, b, tables, plan)
+        }
+        SqlCond::Or(_) => Ok(find_alike(cond, plan)),
+        _ => Ok(false),
+    }
+}
+
+/// Finds the rows of an item by one of its columns, which is equal to a scalar.
+#[cycle(preparing)]
+fn find_by_column(
+    alloc: Global,
+    scalar: &SqlScalar,
+    column: &SqlScalar,
+    tables: &TableSet,
+    plan: &mut StepPlan,
+) -> Result<bool, Memory>
+    requires { All (IsTableOf tables.now) (scalar_tables scalar.now) }
+    ensures count { OnOk result (item_count plan.new ≡ item_count plan.old) }
+    ensures found { IfOk result (λ found. found ≡ true → JudgesToo
+        (λ scope scopes. is_found false (value_in tables.now column.now (scope ∷ scopes))
+        (value_in tables.now scalar.now (scope ∷ scopes))) plan.old plan.new) }
+    ensures none { IfOk result (λ found. found ≡ false → plan.new ≡ plan.old) }
+{
+    match column {
+        SqlScalar::Column(place) => find_by_place(alloc, *place, scalar, tables, plan),
+        _ => Ok(false),
+    }
+}
+
+/// Finds the rows of an item by the column at a place, which is equal to a scalar.
+#[cycle(preparing)]
+fn find_by_place(
+    alloc: Global,
+    place: SqlPlace,
+    scalar: &SqlScalar,
+    tables: &TableSet,
+    plan: &mut StepPlan,
+) -> Result<bool, Memory>
+    requires { All (IsTableOf tables.now) (scalar_tables scalar.now) }
+    ensures count { OnOk result (item_count plan.new ≡ item_count plan.old) }
+    ensures found { IfOk result (λ found. found ≡ true → JudgesToo
+        (λ scope scopes. is_found false (place_value (scope ∷ scopes) place)
+        (value_in tables.now scalar.now (scope ∷ scopes))) plan.old plan.new) }
+    ensures none { IfOk result (λ found. found ≡ false → plan.new ≡ plan.old) }
+{
+    let item = place.item as usize;
+    if place.up != 0 || !plan.is_free(item) || scalar_reach(scalar, 0) > item {
+        return Ok(false);
+    }
+    let ready = ready_scalar(alloc, scalar, tables)?;
+    plan.find_by(item, place.column, ready, false);
+    Ok(true)
+}
+
+/// Finds the rows of an item by a condition that holds where two columns have the same value, or both
+/// have none.
+fn find_alike(cond: &SqlCond, plan: &mut StepPlan) -> bool
+    ensures count { item_count plan.new ≡ item_count plan.old }
+    ensures found { result ≡ true → (tables : Tables) → JudgesToo
+        (λ scope scopes. is_true (truth_in tables cond.now (scope ∷ scopes))) plan.old plan.new }
+    ensures none { result ≡ false → plan.new ≡ plan.old }
+{
+    match alike_places(cond) {
+        Some((a, b)) => {
+            if find_by_other(a, b, plan) {
+                return true;
+            }
+            find_by_other(b, a, plan)
+        }
+        None => false,
+    }
+}
+
+/// Finds the rows of an item by the column at a place, which has the same value as another.
+fn find_by_other(place: SqlPlace, other: SqlPlace, plan: &mut StepPlan) -> bool
+    ensures count { item_count plan.new ≡ item_count plan.old }
+    ensures found { result ≡ true → JudgesToo
+        (λ scope scopes. value_eq (place_value (scope ∷ scopes) place)
+        (place_value (scope ∷ scopes) other)) plan.old plan.new }
+    ensures none { result ≡ false → plan.new ≡ plan.old }
+{
+    let item = place.item as usize;
+    if place.up != 0 || !plan.is_free(item) || place_reach(other, 0) > item {
+        return false;
+    }
+    plan.find_by(item, place.column, ReadyScalar::Column(other), true);
+    true
+}
+
+/// Judges WHERE, where it is written.
+#[cycle(preparing)]
+fn judge_filter(
     alloc: Global,
     filter: &Option<SqlCond>,
     tables: &TableSet,
-) -> Result<ReadyCond, Memory>
+    plan: &mut StepPlan,
+) -> Result<(), Memory>
     requires { All (IsTableOf tables.now) (if_written (option_map cond_tables filter.now)) }
-    ensures { IfOk result
-        (λ ready. keeps ready ≡ is_kept (option_map (truth_in tables.now) filter.now)) }
+    ensures count { OnOk result (item_count plan.new ≡ item_count plan.old) }
+    ensures judged { OnOk result (JudgesToo
+        (λ scope scopes. is_kept (option_map (truth_in tables.now) filter.now) (scope ∷ scopes))
+        plan.old plan.new) }
 {
     match filter {
-        Some(cond) => ready_cond(alloc, cond, tables),
-        None => Ok(ReadyCond::And(List::new(alloc))),
+        Some(cond) => judge(alloc, cond, tables, plan),
+        None => Ok(()),
     }
 }
 
@@ -284,15 +464,21 @@ fn stored_rows(
     table_rows(alloc, tables, table.index)
 }
 
-/// The FROM and the WHERE of a query made ready.
+/// The FROM and the WHERE of a query made ready, which is run once or more than once.
 #[cycle(preparing)]
-fn ready_search(alloc: Global, query: &SqlQuery, tables: &TableSet) -> Result<ReadySearch, Memory>
+fn ready_search(
+    alloc: Global,
+    query: &SqlQuery,
+    tables: &TableSet,
+    once: bool,
+) -> Result<ReadySearch, Memory>
     requires { FitsTables tables.now query.now }
     ensures { IfOk result (λ ready. kept ready ≡ scopes_kept tables.now query.now) }
 {
-    let test = ready_filter(alloc, &query.filter, tables)?;
-    let items = all_rows(alloc, query.from.as_slice(), tables)?;
-    Ok(ReadySearch { items, test })
+    let rows = all_rows(alloc, query.from.as_slice(), tables)?;
+    let mut plan = StepPlan::new(alloc, rows.as_slice().len(), once)?;
+    judge_filter(alloc, &query.filter, tables, &mut plan)?;
+    plan.search(alloc, rows)
 }
 
 /// The rows of a query that no rows stand round, before DISTINCT.
@@ -305,7 +491,7 @@ pub(crate) fn rows_selected(
     requires { FitsTables tables.now query.now }
     ensures { IfOk result (λ rows. rows ≡ rows_selected tables.now query.now []) }
 {
-    let search = ready_search(alloc, query, tables)?;
+    let search = ready_search(alloc, query, tables, true)?;
     let items = ready_items(alloc, query.items.as_slice(), tables)?;
     shown(alloc, &search, items.as_slice())
 }

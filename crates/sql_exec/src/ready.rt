@@ -1,5 +1,7 @@
-//! A query made ready to be run: each of its FROM items is the rows that it has.
+//! A query made ready to be run: its FROM items one after the other, each with the conditions that
+//! are judged as soon as one of its rows is chosen.
 
+use crate::row_groups::RowGroups;
 use prefsql_tables::AnswerRow;
 use prefsql_values::{Boxed, CompareOp, List, Value};
 use sql_tree::SqlPlace;
@@ -42,10 +44,29 @@ pub(crate) struct ReadyWhen {
     pub(crate) value: ReadyScalar,
 }
 
-/// A FROM and its WHERE made ready: the rows of each item, and the condition that keeps a scope.
+/// The rows of a FROM item.
+#[cycle(ready)]
+#[derive(Drop)]
+pub(crate) enum ReadyRows {
+    All(List<AnswerRow>),
+    /// Those whose value in the column of the groups is equal to the scalar. The flag is true where
+    /// NULL is taken as equal to NULL.
+    Equal(bool, ReadyScalar, RowGroups),
+}
+
+/// A FROM item made ready, and the conditions that are judged as soon as its row is chosen.
+#[cycle(ready)]
+#[derive(Drop)]
+pub(crate) struct ReadyStep {
+    pub(crate) rows: ReadyRows,
+    pub(crate) tests: List<ReadyCond>,
+}
+
+/// A FROM and its WHERE made ready: the conditions that are judged before any row is chosen, and
+/// the FROM items in their order.
 #[cycle(ready)]
 #[derive(Drop)]
 pub(crate) struct ReadySearch {
-    pub(crate) items: List<List<AnswerRow>>,
-    pub(crate) test: ReadyCond,
+    pub(crate) before: List<ReadyCond>,
+    pub(crate) steps: List<ReadyStep>,
 }

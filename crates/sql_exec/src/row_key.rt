@@ -6,6 +6,7 @@ ghost use Rattle.std.proofs.Common.{ap};
 ghost use Rattle.prefsql_values.specs.Value.{value_eq};
 ghost use Rattle.prefsql_tables.specs.Distinct.{is_same_row};
 ghost use Rattle.prefsql_tables.proofs.DistinctLemmas.{is_same_row-Decides};
+ghost use Rattle.prefsql_values.proofs.ValueEq.{value_eq-Decides};
 ghost use Rattle.sql_exec.specs.RowKeys.{value_writes, row_writes};
 
 use prefsql_tables::AnswerRow;
@@ -76,4 +77,42 @@ fn are_same(values: &[Value], others: &[Value]) -> bool
         }
     }
     true
+}
+
+/// A value that is found by itself, where NULL is the same as NULL. A contract sees the value.
+#[derive(Drop)]
+pub(crate) struct ValueKey {
+    pub value: Value,
+}
+
+impl Model for ValueKey {
+    ghost use Rattle.sql_exec.specs.Keys.{Keyed};
+
+    ghost Value = { Keyed };
+
+    ghost view = { λ key. key.value };
+}
+
+impl PartialEq for ValueKey {
+    ghost eq = { value_eq };
+
+    ghost laws = { partial_equiv_from_equiv (decided value_eq value_eq-Decides) };
+
+    fn eq(&self, other: &ValueKey) -> bool {
+        not_distinct(self.value.cell(), other.value.cell())
+    }
+}
+
+impl Eq for ValueKey {
+    ghost laws = { decided value_eq value_eq-Decides };
+}
+
+impl Hash for ValueKey {
+    ghost hash_input = { value_writes };
+
+    ghost respects_eq = { λ x y same. ap value_writes ((value_eq-Decides x y).0 same) };
+
+    fn hash<H: Hasher>(&self, state: &mut H) {
+        hash_value(&self.value, state);
+    }
 }

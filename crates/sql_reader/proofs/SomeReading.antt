@@ -1,6 +1,5 @@
--- A text of UTF-8 reads as a list of queries, or has a first fault.
+-- A text reads as a list of queries, or has a first fault.
 use Rattle.std.proofs.Common.{◌≡◌, ℕ, ◌⊎◌, inl, inr, List, length, refl, Result, Ok, Err}
-use Rattle.std.specs.Prelude.{IsUtf8}
 use Rattle.prefsql_lexer.specs.declared.fault.Spot.{Spot}
 use Rattle.prefsql_lexer.specs.declared.token.Token.{Token}
 use Rattle.prefsql_lexer.specs.Tokens.{IsTokens}
@@ -15,8 +14,8 @@ use Rattle.sql_resolver.specs.Statements.{script_reading}
 use Rattle.sql_reader.specs.Reads.{ReadsAs, HasFirstFault}
 use Rattle.sql_parser.proofs.OneFault.{script_or_some_fault}
 
-pub reads_or_has_fault : (tables : Tables) (text : List ℕ) → IsUtf8 text → ((queries : List SqlQuery) × ReadsAs tables text queries) ⊎ ((spot : Spot) × HasFirstFault tables text spot)
-reads_or_has_fault tables text utf8 = elim (tokens_or_first_fault max_nesting text utf8) [ inl t ↦ of_tokens t.0 t.1 | inr f ↦ inr (f.0, inl f.1) ]
+pub reads_or_has_fault : (tables : Tables) (text : List ℕ) → ((queries : List SqlQuery) × ReadsAs tables text queries) ⊎ ((spot : Spot) × HasFirstFault tables text spot)
+reads_or_has_fault tables text = elim (tokens_or_first_fault max_nesting text) [ inl t ↦ of_tokens t.0 t.1 | inr f ↦ inr (f.0, inl f.1) ]
   where
     of_script : (ts : List Token) → IsTokens max_nesting text ts → (statements : List NamedStatement) → IsScript ts statements → (r : Result (List SqlQuery) Spot) → script_reading tables statements ≡ r →
         ((queries : List SqlQuery) × ReadsAs tables text queries) ⊎ ((spot : Spot) × HasFirstFault tables text spot)

@@ -2,6 +2,7 @@ pub mod CellLemmas
 pub mod FaultLemmas
 pub mod FieldLemmas
 pub mod FieldsLemmas
+pub mod FileLemmas
 pub mod HeaderLemmas
 pub mod RecordLemmas
 pub mod RowLemmas

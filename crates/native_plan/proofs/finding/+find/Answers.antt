@@ -1,6 +1,6 @@
 use Rattle.std.proofs.Common.{rules, refl}
 use Rattle.plan_algebra.specs.declared.plan.Plan.TheViews.{the_lemmas}
-use Rattle.native_plan.proofs.Found.{askable_of_best, askable_of_filter, askable_of_join, askable_of_scan, best_is, filter_is, first_of_join, found_of_best, found_of_filter, found_of_join, found_of_scan, join_is, judged_of_best, part_of_best, part_of_filter, second_of_join, stands_of_filter, there_of_scan}
+use Rattle.native_plan.proofs.Found.{askable_of_best, askable_of_filter, askable_of_join, askable_of_scan, best_is, ends_of_join, filter_is, first_of_join, found_of_best, found_of_filter, found_of_join, found_of_scan, join_is, judged_of_best, part_of_best, part_of_filter, second_of_join, stands_of_filter, there_of_scan}
 use Rattle.native_plan.proofs.finding.+find.Goals as goal
 
 pub scan-requires-clause-there : goal.scan-requires-clause-there
@@ -83,8 +83,14 @@ find-requires-in-Join-2 g t c κs within = (
   ),
 )
 
-pub join-requires : goal.join-requires
-join-requires g t c =
+pub join-requires-clause-ends : goal.join-requires-clause-ends
+join-requires-clause-ends g t c =
+    ends_of_join c.args.asked.now c.args.plan.now c.requires.part c.get-in-Join.result.now c.get-in-Join-2.result.now
+    (join_is c.args.plan.now c.in-Join.left c.in-Join.right c.get-in-Join.result.now c.get-in-Join-2.result.now c.in-Join.is c.get-in-Join.ensures c.get-in-Join-2.ensures)
+    _ _ _ c.in_ok-lefts-in-Join.lefts c.in_ok-rights-in-Join.rights c.in_ok-lefts-in-Join.ensures c.in_ok-rights-in-Join.ensures
+
+pub join-requires-clause-askable : goal.join-requires-clause-askable
+join-requires-clause-askable g t c =
     askable_of_join c.args.asked.now c.requires.asked c.args.plan.now c.requires.part c.args.conjuncts.now c.requires.conjuncts c.get-in-Join.result.now c.get-in-Join-2.result.now
     (join_is c.args.plan.now c.in-Join.left c.in-Join.right c.get-in-Join.result.now c.get-in-Join-2.result.now c.in-Join.is c.get-in-Join.ensures c.get-in-Join-2.ensures)
     _ _ _ c.in_ok-lefts-in-Join.lefts c.in_ok-rights-in-Join.rights c.in_ok-lefts-in-Join.ensures c.in_ok-rights-in-Join.ensures

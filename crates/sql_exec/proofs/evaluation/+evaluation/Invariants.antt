@@ -1,13 +1,15 @@
-use Rattle.std.proofs.Common.{◌≡◌, ◌∷◌, true, pos, map, drop, length, IfSome}
-use Rattle.std.specs.List.{list_any}
+use Rattle.std.proofs.Common.{◌≡◌, [], pos, map, drop, length}
+use Rattle.std.specs.List.{list_all}
 use Rattle.prefsql_values.specs.Truth.{both_true, either_true, all_true, any_true}
 use Rattle.prefsql_values.specs.Value.{one_of, value_of}
 use Rattle.prefsql_values.specs.declared.value.Value.TheVariants.{Num}
 use Rattle.sql_tree.specs.Meaning.{added, first_some, sum_of}
-use Rattle.sql_exec.specs.Choices.{IsChoice, due}
-use Rattle.sql_exec.specs.Ready.{keeps, kept, truth, value, when_value}
+use Rattle.sql_exec.specs.Ready.{keeps, steps_at, truth, value, when_value}
 use Rattle.sql_exec.specs.Seen.{outer_seen, scopes_seen}
+use Rattle.sql_exec.specs.Steps.{IsWalk, left_of, row_of}
+use Rattle.sql_exec.specs.Walks.{found, pending, tries}
 use Rattle.sql_exec.specs.Wrapping.{wrapped, wrapped_sum}
+use Rattle.sql_exec.specs.declared.ready.ReadySearch.{out-ReadySearch}
 use Rattle.sql_exec.proofs.evaluation.+evaluation.Given as goal
 
 abbrev pub invariant-first_true-loop-when : goal.invariant-first_true-loop-when
@@ -35,11 +37,19 @@ invariant-is_one_of-loop-item l =
     let values = map (λ b. value b (scopes_seen l.own l.outer)) in
     one_of (value_of l.cell) (values l.list) ≡ either_true l.so_far (one_of (value_of l.cell) (values (drop l.item-index l.list)))
 
-abbrev pub invariant-is_found-loop-next : goal.invariant-is_found-loop-next
-invariant-is_found-loop-next l = record {
-  choice : IfSome l.next IsChoice;
-  found : list_any (λ _. true) (kept l.search (outer_seen l.outer)) ≡ list_any (λ scope. keeps l.search.test (scope ∷ outer_seen l.outer)) (due l.next);
-}
+abbrev pub invariant-all_keep-loop-cond : goal.invariant-all_keep-loop-cond
+invariant-all_keep-loop-cond l =
+    let passes = list_all (λ cond. keeps cond (scopes_seen l.own l.outer)) in
+    passes l.conds ≡ passes (drop l.cond-index l.conds)
 
-abbrev pub decreases-is_found-loop-next : goal.decreases-is_found-loop-next
-decreases-is_found-loop-next l = length (due l.next)
+abbrev pub invariant-next_scope-loop-walk : goal.invariant-next_scope-loop-walk
+invariant-next_scope-loop-walk l =
+    let steps = steps_at (out-ReadySearch l.search).steps (outer_seen l.outer) in
+    record {
+      walk : IsWalk (length (out-ReadySearch l.search).steps) l.walk;
+      come : pending found steps [] (row_of l.fn.walk) (left_of l.fn.walk) ≡ pending found steps [] (row_of l.walk) (left_of l.walk);
+    }
+
+abbrev pub decreases-next_scope-loop-walk : goal.decreases-next_scope-loop-walk
+decreases-next_scope-loop-walk l =
+    length (pending tries (steps_at (out-ReadySearch l.search).steps (outer_seen l.outer)) [] (row_of l.walk) (left_of l.walk))

@@ -1,5 +1,9 @@
-use Rattle.std.proofs.Common.{rules, All, ◌≡◌, List, Option, [], ◌∷◌, IfOk, map, sym, ap, ◌∙◌, subst}
-use Rattle.std.specs.List.{flat_map}
+use Rattle.std.proofs.Common.{rules, All, ◌≡◌, Bool, true, false, List, Option, [], ◌∷◌, IfOk, length, map, refl, sym, ap, ◌∙◌, subst}
+use Rattle.std.specs.List.{filter, flat_map}
+use Rattle.std.proofs.lemmas.Result.{IfOk-weaker, on_ok_weaker}
+use Rattle.prefsql_values.specs.Truth.{is_true}
+use Rattle.prefsql_values.specs.declared.truth.Truth.{Truth}
+use Rattle.prefsql_tables.specs.Product.{product}
 use Rattle.std.specs.Option.{option_map}
 use Rattle.sql_tree.specs.declared.tree.SqlCond.TheViews.{the_lemmas}
 use Rattle.sql_tree.specs.declared.tree.SqlFrom.{SqlFrom}
@@ -14,14 +18,19 @@ use Rattle.prefsql_tables.specs.declared.table.AnswerRow.{AnswerRow}
 use Rattle.sql_tree.specs.declared.tree.SqlCond.{SqlCond}
 use Rattle.sql_tree.specs.declared.tree.SqlQuery.{SqlQuery}
 use Rattle.sql_tree.specs.declared.tree.SqlScalar.{SqlScalar}
-use Rattle.sql_tree.specs.Meaning.{Scopes, else_value, is_kept}
+use Rattle.sql_tree.specs.Meaning.{Scope, Scopes, else_value, place_value}
 use Rattle.sql_exec.specs.Wrapping.{from_rows, item_value, rows_in, term_value, truth_in, value_in}
 use Rattle.sql_exec.specs.Wrapping as meaning
-use Rattle.sql_exec.specs.declared.ready.ReadyCond.{ReadyCond, And}
+use Rattle.sql_exec.specs.declared.steps.StepPlan.{StepPlan}
 use Rattle.sql_exec.specs.declared.ready.ReadyScalar.{ReadyScalar}
 use Rattle.sql_exec.specs.declared.ready.ReadySearch.{ReadySearch}
 use Rattle.sql_exec.specs.Preparing.{scopes_kept}
-use Rattle.sql_exec.specs.Ready.{keeps, kept, row_of, truth, value, when_value}
+use Rattle.sql_exec.specs.Planned.{JudgesToo, plan_keeps}
+use Rattle.sql_exec.specs.Reach.{SpeaksOf}
+use Rattle.sql_exec.specs.RowKeys.{is_found}
+use Rattle.sql_exec.proofs.Judging.{And_judged, Column_judged, Compare_judged, Compare_turned, all_judged, judged_as, none_judged, one_judged, search_judged}
+use Rattle.sql_exec.proofs.Reaches.{more}
+use Rattle.sql_exec.specs.Ready.{kept, row_of, truth, value, when_value}
 use Rattle.sql_exec.proofs.Prepared as made
 use Rattle.sql_exec.proofs.preparing.+preparing.Goals as goal
 
@@ -87,11 +96,6 @@ pub ready_else-returns-in-None : goal.ready_else-returns-in-None
 ready_else-returns-in-None t c =
     made.ready_no_else c.args.tables.now ∙ ap (λ (last : Option SqlScalar). else_value (option_map (value_in c.args.tables.now) last)) (sym c.in-None.is)
 
-pub ready_filter-returns-in-None : goal.ready_filter-returns-in-None
-ready_filter-returns-in-None t c =
-    ap (λ (parts : List ReadyCond). keeps (And parts)) c.new.ensures ∙ made.ready_none c.args.tables.now
-    ∙ ap (λ (filter : Option SqlCond). is_kept (option_map (truth_in c.args.tables.now) filter)) (sym c.in-None.is)
-
 pub ready_item-returns : goal.ready_item-returns
 ready_item-returns t c =
     let P : (Scopes → Value) → Type 0 = λ means. IfOk c.ready_scalar.result (λ ready. value ready ≡ means) in
@@ -117,11 +121,6 @@ ready_scalar-returns-in_ok-new-in-Case t c =
     made.ready_Case c.args.tables.now c.args.scalar.now c.in-Case.whens c.in-Case.last _ c.in_ok-new-in-Case.field-0 c.in-Case.is
     (ap (map when_value) c.whens.view_is ∙ c.in_ok-whens-in-Case.ensures ∙ ap (map (meaning.when_value c.args.tables.now)) c.as_slice-in-Case.ensures)
     (ap value c.in_ok-new-in-Case.ensures ∙ c.in_ok-last-in-Case.ensures)
-
-pub ready_search-returns : goal.ready_search-returns
-ready_search-returns t c =
-    made.ready_query c.args.tables.now c.args.query.now _
-    (c.in_ok-items.ensures ∙ ap (map (from_rows c.args.tables.now)) c.as_slice.ensures) c.in_ok-test.ensures
 
 pub ready_term-returns-in_ok-new : goal.ready_term-returns-in_ok-new
 ready_term-returns-in_ok-new t c =
@@ -298,12 +297,6 @@ ready_item-ready_scalar-requires t c = (
   named.item_there (IsTableOf c.args.tables.now) c.args.item.now c.requires,
 )
 
-pub ready_filter-ready_cond-requires : goal.ready_filter-ready_cond-requires
-ready_filter-ready_cond-requires t c = (
-  search (rules, the_lemmas),
-  named.some_cond (IsTableOf c.args.tables.now) c.args.filter.now c.in-Some.cond c.in-Some.is c.requires,
-)
-
 pub item_rows-stored_rows-requires : goal.item_rows-stored_rows-requires
 item_rows-stored_rows-requires t c = named.Table_there (IsTableOf c.args.tables.now) c.args.item.now c.in-Table.table c.in-Table.is c.requires
 
@@ -311,12 +304,6 @@ pub item_rows-query_rows-requires : goal.item_rows-query_rows-requires
 item_rows-query_rows-requires t c = (
   search (rules, the_lemmas),
   subst (λ (query : SqlQuery). FitsTables c.args.tables.now query) (sym c.get.ensures) (named.Derived_there (IsTableOf c.args.tables.now) c.args.item.now c.in-Derived.query c.in-Derived.is c.requires),
-)
-
-pub ready_search-ready_filter-requires : goal.ready_search-ready_filter-requires
-ready_search-ready_filter-requires t c = (
-  search (rules, the_lemmas),
-  named.query_filter (IsTableOf c.args.tables.now) c.args.query.now c.requires,
 )
 
 pub ready_search-all_rows-requires : goal.ready_search-all_rows-requires
@@ -342,3 +329,104 @@ query_rows-rows_selected-requires t c = (
   search (rules, the_lemmas),
   c.requires,
 )
+
+-- ---- WHERE, condition by condition
+
+pub find_by-find_by_column-requires : goal.find_by-find_by_column-requires
+find_by-find_by_column-requires t c =
+    let w = c.in-Compare in
+    (search (rules, the_lemmas), named.Compare_right (IsTableOf c.args.tables.now) c.args.cond.now w.op w.a w.b w.is c.requires)
+
+pub find_by-find_by_column-requires-in-Compare : goal.find_by-find_by_column-requires-in-Compare
+find_by-find_by_column-requires-in-Compare t c =
+    let w = c.in-Compare in
+    (search (rules, the_lemmas), named.Compare_left (IsTableOf c.args.tables.now) c.args.cond.now w.op w.a w.b w.is c.requires)
+
+pub find_by-returns-then-branch-clause-found : goal.find_by-returns-then-branch-clause-found
+find_by-returns-then-branch-clause-found t c = λ _.
+    let w = c.in-Compare in
+    judged_as _ _ c.args.plan.now c.find_by_column.new.plan (Compare_judged c.args.tables.now c.args.cond.now w.op w.a w.b w.is (c.is_equality.ensures c.if-not-is_equality.false))
+    (c.in_ok-find_by_column-in-Compare.ensures.found c.if-branch.true)
+
+pub find_by-returns-else-branch-clause-found : goal.find_by-returns-else-branch-clause-found
+find_by-returns-else-branch-clause-found t c =
+    let w = c.in-Compare in
+    let tables = c.args.tables.now in
+    let new = c.find_by_column-in-Compare.new.plan in
+    let told : Scope → Scopes → Bool = λ scope scopes. is_found false (value_in tables w.b (scope ∷ scopes)) (value_in tables w.a (scope ∷ scopes)) in
+    let wanted : Scope → Scopes → Bool = λ scope scopes. is_true (truth_in tables c.args.cond.now (scope ∷ scopes)) in
+    let as_it_was = c.in_ok-find_by_column-in-Compare.ensures.none c.if-branch.false in
+    IfOk-weaker c.find_by_column-in-Compare.result (λ found. found ≡ true → JudgesToo told c.find_by_column.new.plan new) (λ found. found ≡ true → JudgesToo wanted c.args.plan.now new)
+    (λ found had is. subst (λ (old : StepPlan). JudgesToo wanted old new) as_it_was (judged_as told wanted c.find_by_column.new.plan new (Compare_turned tables c.args.cond.now w.op w.a w.b w.is (c.is_equality.ensures c.if-not-is_equality.false)) (had is)))
+    c.find_by_column-in-Compare.ensures.found
+
+pub find_by_column-find_by_place-requires : goal.find_by_column-find_by_place-requires
+find_by_column-find_by_place-requires t c = (search (rules, the_lemmas), c.requires)
+
+pub find_by_column-returns-in-Column-clause-found : goal.find_by_column-returns-in-Column-clause-found
+find_by_column-returns-in-Column-clause-found t c =
+    let tables = c.args.tables.now in
+    let old = c.args.plan.now in
+    let new = c.find_by_place.new.plan in
+    let told : Scope → Scopes → Bool = λ scope scopes. is_found false (place_value (scope ∷ scopes) c.in-Column.place) (value_in tables c.args.scalar.now (scope ∷ scopes)) in
+    let wanted : Scope → Scopes → Bool = λ scope scopes. is_found false (value_in tables c.args.column.now (scope ∷ scopes)) (value_in tables c.args.scalar.now (scope ∷ scopes)) in
+    IfOk-weaker c.find_by_place.result (λ found. found ≡ true → JudgesToo told old new) (λ found. found ≡ true → JudgesToo wanted old new)
+    (λ found had is. judged_as told wanted old new (Column_judged tables c.args.column.now c.in-Column.place c.args.scalar.now c.in-Column.is) (had is))
+    c.find_by_place.ensures.found
+
+pub find_by_place-find_by-requires-clause-speaks : goal.find_by_place-find_by-requires-clause-speaks
+find_by_place-find_by-requires-clause-speaks t c =
+    let tables = c.args.tables.now in
+    subst (λ (f : Scopes → Value). SpeaksOf 0 c.args.place.item f) (sym c.in_ok-ready.ensures)
+    (more 0 c.scalar_reach.result c.args.place.item (value_in tables c.args.scalar.now) c.if-scalar_reach-item.false (c.scalar_reach.ensures tables))
+
+pub judge-judge_all-requires : goal.judge-judge_all-requires
+judge-judge_all-requires t c = (
+  search (rules, the_lemmas),
+  subst (λ (parts : List SqlCond). All (IsTableOf c.args.tables.now) (flat_map cond_tables parts)) (sym c.as_slice.ensures) (named.And_there (IsTableOf c.args.tables.now) c.args.cond.now c.in-And.parts c.in-And.is c.requires),
+)
+
+pub judge-returns-in-And-clause-judged : goal.judge-returns-in-And-clause-judged
+judge-returns-in-And-clause-judged t c =
+    let tables = c.args.tables.now in
+    on_ok_weaker c.judge_all.result (judged_as _ _ c.args.plan.now c.judge_all.new.plan (And_judged tables c.args.cond.now c.in-And.parts c.as_slice.result.now c.in-And.is c.as_slice.ensures)) c.judge_all.ensures.judged
+
+pub judge_all-judge-requires : goal.judge_all-judge-requires
+judge_all-judge-requires t c = (
+  search (rules, the_lemmas),
+  named.each_there (IsTableOf c.args.tables.now) cond_tables c.args.conds.now c.loop-cond.cond-index c.cond-item.result c.cond-item.result c.loop-cond-test.true c.cond-item.is c.requires,
+)
+
+pub judge_all-loop-cond-init : goal.judge_all-loop-cond-init
+judge_all-loop-cond-init t c = record { count = refl; judged = none_judged c.args.tables.now c.args.plan.now c.args.conds.now }
+
+pub judge_all-loop-cond-preserved : goal.judge_all-loop-cond-preserved
+judge_all-loop-cond-preserved t c = record {
+  count = c.in_ok-judge.ensures.count ∙ c.loop-cond.invariant.count;
+  judged = one_judged c.args.tables.now c.args.plan.now c.loop-cond.plan c.judge.new.plan c.args.conds.now c.loop-cond.cond-index c.cond-item.result c.cond-item.result c.loop-cond-test.true c.cond-item.is c.loop-cond.invariant.count
+      c.loop-cond.invariant.judged c.in_ok-judge.ensures.judged;
+}
+
+pub judge_all-returns-clause-judged : goal.judge_all-returns-clause-judged
+judge_all-returns-clause-judged t c = all_judged c.args.tables.now c.args.plan.now c.loop-cond.plan c.args.conds.now c.loop-cond.cond-index c.loop-cond-test.false c.loop-cond.invariant.judged
+
+pub judge_one-judge-requires : goal.judge_one-judge-requires
+judge_one-judge-requires t c =
+    let tables = c.args.tables.now in
+    subst (λ (f : Scopes → Truth). SpeaksOf 0 c.cond_reach.result f) (sym c.in_ok-ready.ensures) (c.cond_reach.ensures tables)
+
+pub ready_search-judge_filter-requires : goal.ready_search-judge_filter-requires
+ready_search-judge_filter-requires t c = (
+  search (rules, the_lemmas),
+  named.query_filter (IsTableOf c.args.tables.now) c.args.query.now c.requires,
+)
+
+pub ready_search-returns : goal.ready_search-returns
+ready_search-returns t c =
+    let tables = c.args.tables.now in
+    let query = c.args.query.now in
+    let rows = c.in_ok-rows.rows in
+    let empty = c.in_ok-plan.plan in
+    IfOk-weaker c.search.result (λ made. (scopes : Scopes) → kept made scopes ≡ filter (λ scope. plan_keeps c.judge_filter.new.plan scope scopes) (product rows)) (λ ready. kept ready ≡ scopes_kept tables query)
+    (λ made finds. search_judged tables query rows empty c.judge_filter.new.plan (c.in_ok-rows.ensures ∙ ap (map (from_rows tables)) c.as_slice.ensures) (c.in_ok-plan.ensures.count ∙ ap length c.as_slice-2.ensures) c.in_ok-plan.ensures.keeps c.in_ok-judge_filter.ensures.judged (kept made) finds)
+    c.search.ensures

@@ -1,4 +1,7 @@
-use Rattle.std.proofs.Common.{◌≡◌, map, take}
+use Rattle.std.proofs.Common.{◌≡◌, ◌∷◌, map, take}
+use Rattle.std.specs.List.{list_all}
+use Rattle.prefsql_values.specs.Truth.{is_true}
+use Rattle.sql_exec.specs.Planned.{JudgesToo, item_count}
 use Rattle.sql_exec.specs.Wrapping.{from_rows, item_value, term_value, truth_in, value_in}
 use Rattle.sql_exec.specs.Wrapping as meaning
 use Rattle.sql_exec.specs.Ready.{truth, value, when_value}
@@ -21,3 +24,9 @@ invariant-ready_items-loop-item l = map value l.ready ≡ map (item_value l.tabl
 
 abbrev pub invariant-all_rows-loop-item : goal.invariant-all_rows-loop-item
 invariant-all_rows-loop-item l = l.all ≡ map (from_rows l.tables) (take l.item-index l.from)
+
+abbrev pub invariant-judge_all-loop-cond : goal.invariant-judge_all-loop-cond
+invariant-judge_all-loop-cond l = record {
+  count : item_count l.plan ≡ item_count l.fn.plan;
+  judged : JudgesToo (λ scope scopes. list_all (λ cond. is_true (truth_in l.tables cond (scope ∷ scopes))) (take l.cond-index l.conds)) l.fn.plan l.plan;
+}
