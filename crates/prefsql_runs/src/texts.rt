@@ -19,6 +19,19 @@ fn plans(rt: HostRuntime) -> Result<(), Fail> {
             "SELECT c.id, d.city FROM cars c, dealers d WHERE c.id <> 2 AND c.dealer = d.name PREFERRING LOWEST(c.price)",
             "best P1\n  filter W2\n    join\n      best P1 by T1.DEALER\n        filter W1\n          scan T1 CARS\n      scan T2 DEALERS\n\n",
         ),
+        // one after the other where each ranks all, and in one step from the first that does not
+        (
+            "SELECT id FROM cars PREFERRING color = 'red' CASCADE LOWEST(price) CASCADE HIGHEST(power)",
+            "best P3\n  best P2\n    best P1\n      scan T1 CARS\n\n",
+        ),
+        (
+            "SELECT id FROM cars PREFERRING color = 'red' CASCADE (LOWEST(price) CASCADE HIGHEST(power)) GROUPING dealer",
+            "best P3 by T1.DEALER\n  best P2 by T1.DEALER\n    best P1 by T1.DEALER\n      scan T1 CARS\n\n",
+        ),
+        (
+            "SELECT id FROM cars PREFERRING color = 'red' CASCADE LOWEST(price) TRIVIAL CASCADE HIGHEST(power)",
+            "best (P2 cascade P3)\n  best P1\n    scan T1 CARS\n\n",
+        ),
     ] {
         let case = Case {
             words: &["explain", "CARS=cars.csv", "DEALERS=dealers.csv"],
@@ -26,6 +39,19 @@ fn plans(rt: HostRuntime) -> Result<(), Fail> {
         };
         assert!(rt; ends(alloc, &case)?, "{script}");
     }
+    // three tables, with conditions and preferences of each kind
+    let case = Case {
+        words: &["explain", "A=t.csv", "B=t.csv", "C=t.csv"],
+        files: &[(
+            "t.csv",
+            "a INTEGER NOT NULL,b INTEGER NOT NULL,c TEXT,d INTEGER NOT NULL,e TEXT NOT NULL\n",
+        )],
+        ..answered(
+            b"SELECT x.a FROM a x, b y, c z WHERE x.a = y.a AND y.b = z.b AND x.d < z.d AND 1 = 1 AND z.c IS NULL AND x.c = x.c PREFERRING (LOWEST(x.a) AND z.b AROUND 3) CASCADE (HIGHEST(y.d) CASCADE (x.e IN ('p') TRIVIAL CASCADE LOWEST(z.d))) GROUPING y.c, x.b BUT ONLY DISTANCE(z.b) <= 3 AND y.c = 'q' AND (x.b = 1 OR y.c IS NULL) AND LEVEL(x.e) <= 1 AND 2 = 2 AND x.d = 3",
+            "filter B4 B6\n  best ((((P1 and P2) cascade P3) cascade P4) cascade P5) by T2.C T1.B\n    filter W2 W3\n      join\n        filter W1 B3\n          join\n            best (P1 cascade P4) by T1.A T1.B T1.D\n              filter W4 W6 B5\n                scan T1 A\n            best P3 by T2.A T2.B T2.C\n              filter B2\n                scan T2 B\n        best (P2 cascade P5) by T3.B T3.D\n          filter W5 B1\n            scan T3 C\n\n",
+        )
+    };
+    assert!(rt; ends(alloc, &case)?);
     Ok(())
 }
 
@@ -116,29 +142,44 @@ fn counts_of_tests(rt: HostRuntime) -> Result<(), Fail> {
     Ok(())
 }
 
-// The bench is the same each time.
+// The bench is the same each time. Here and below the numbers of rows are from a program in another
+// language.
 #[test]
 fn the_bench_twice(rt: HostRuntime) -> Result<(), Fail> {
     let case = Case {
         words: &["bench", "20000"],
         ..answered(b"", "")
     };
-    assert!(rt; ends_twice(rt.alloc(), &case, "bench 20000\n")?);
+    assert!(rt;
+        ends_twice(
+            rt.alloc(),
+            &case,
+            "bench 20000\nstatement 1 rows 46\nstatement 2 rows 10\nstatement 3 rows 3\n"
+        )?
+    );
     Ok(())
 }
 
 // The bench asks for no file and no script.
 #[test]
 fn the_bench(rt: HostRuntime) -> Result<(), Fail> {
-    let case = Case {
-        words: &["bench", "--", "1"],
-        failing_load: 1,
-        failing_read: 1,
-        ..answered(
-            b"SELECT",
+    for (number, out) in [
+        (
+            "1",
             "bench 1\nstatement 1 rows 1\nstatement 2 rows 1\nstatement 3 rows 1\n",
-        )
-    };
-    assert!(rt; ends(rt.alloc(), &case)?);
+        ),
+        (
+            "000012",
+            "bench 12\nstatement 1 rows 6\nstatement 2 rows 9\nstatement 3 rows 1\n",
+        ),
+    ] {
+        let case = Case {
+            words: &["bench", "--", number],
+            failing_load: 1,
+            failing_read: 1,
+            ..answered(b"SELECT", out)
+        };
+        assert!(rt; ends(rt.alloc(), &case)?, "{number}");
+    }
     Ok(())
 }
