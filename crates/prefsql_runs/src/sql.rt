@@ -60,6 +60,26 @@ fn answers_of_queries(rt: HostRuntime) -> Result<(), Fail> {
             "SELECT id FROM cars c WHERE NOT EXISTS (SELECT 1 FROM dealers WHERE c.dealer = name AND EXISTS (SELECT 1 FROM cars WHERE dealer = name AND id = c.id))",
             "ID\n4\n5\n\n",
         ),
+        // the first condition that is true
+        (
+            "SELECT id, CASE WHEN id > 0 THEN 'first' WHEN id < 9 THEN 'second' END AS which FROM cars WHERE id = 1",
+            "ID,WHICH\n1,first\n\n",
+        ),
+        // nothing is said of car 1, and a sum with nothing is nothing
+        (
+            "SELECT id, 10 - CASE WHEN id = 2 THEN 1 END AS less, CASE WHEN id = 2 THEN 1 END + id AS more FROM cars WHERE id < 3",
+            "ID,LESS,MORE\n1,,\n2,9,3\n\n",
+        ),
+        // the inner one of two columns of a name
+        (
+            "SELECT id FROM cars c WHERE EXISTS (SELECT 1 FROM cars d WHERE id = 1 AND c.id = 2)",
+            "ID\n2\n\n",
+        ),
+        // columns of the outermost of three queries, by name alone and with a table's
+        (
+            "SELECT id FROM cars c WHERE EXISTS (SELECT 1 FROM dealers d WHERE EXISTS (SELECT 1 FROM dealers e WHERE e.name = dealer AND d.city = 'Ulm' AND c.price < 40000))",
+            "ID\n2\n\n",
+        ),
     ] {
         let case = Case {
             words: &["execute", "CARS=cars.csv", "DEALERS=dealers.csv"],
@@ -130,6 +150,68 @@ fn first_faults(rt: HostRuntime) -> Result<(), Fail> {
         (
             "SELECT x.id FROM cars c, (SELECT c.id FROM cars d) x",
             "error E303 at byte 33\n",
+        ),
+        // the inner one of two tables of a name
+        (
+            "SELECT a.id FROM cars a WHERE EXISTS (SELECT 1 FROM dealers a WHERE a.price = 1)",
+            "error E303 at byte 68\n",
+        ),
+        // a term, an element, a bound, a result
+        (
+            "SELECT id + color AS s FROM cars",
+            "error E305 at byte 12\n",
+        ),
+        ("SELECT color + id AS s FROM cars", "error E305 at byte 7\n"),
+        (
+            "SELECT id FROM cars WHERE id + 1 IN (1, 'b')",
+            "error E305 at byte 40\n",
+        ),
+        (
+            "SELECT id FROM cars WHERE id BETWEEN 'a' AND 2",
+            "error E305 at byte 37\n",
+        ),
+        (
+            "SELECT id FROM cars WHERE id BETWEEN 1 AND 'b'",
+            "error E305 at byte 43\n",
+        ),
+        (
+            "SELECT CASE WHEN id = 1 THEN 'a' ELSE 2 END AS c FROM cars",
+            "error E305 at byte 38\n",
+        ),
+        (
+            "SELECT CASE WHEN id = 1 THEN 2 WHEN id = 2 THEN 'b' ELSE 'c' END AS c FROM cars",
+            "error E305 at byte 48\n",
+        ),
+        // clause by clause
+        ("SELECT size FROM cars, cars", "error E302 at byte 23\n"),
+        (
+            "SELECT id FROM cars WHERE size = 1 ORDER BY 2",
+            "error E303 at byte 26\n",
+        ),
+        // an inner query clause by clause too, and all of it where its SELECT stands
+        (
+            "SELECT id FROM cars WHERE EXISTS (SELECT size FROM cars, cars)",
+            "error E302 at byte 57\n",
+        ),
+        (
+            "SELECT id FROM cars WHERE EXISTS (SELECT size FROM cars) AND color = 5",
+            "error E303 at byte 41\n",
+        ),
+        (
+            "SELECT id FROM cars WHERE color = 5 AND EXISTS (SELECT size FROM cars)",
+            "error E305 at byte 34\n",
+        ),
+        (
+            "SELECT 1 AS one FROM cars x, (SELECT size FROM cars) x",
+            "error E303 at byte 37\n",
+        ),
+        (
+            "SELECT 1 AS one FROM car, (SELECT size FROM cars) x",
+            "error E301 at byte 21\n",
+        ),
+        (
+            "SELECT size FROM (SELECT id FROM car) x",
+            "error E301 at byte 33\n",
         ),
     ] {
         let case = Case {
