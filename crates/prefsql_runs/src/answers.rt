@@ -118,6 +118,16 @@ fn whole_answers(rt: HostRuntime) -> Result<(), Fail> {
             "SELECT DISTINCT dealer, color FROM cars ORDER BY dealer DESC",
             "DEALER,COLOR\n,blue\n,grey\nsouth,red\nnorth,blue\nnorth,red\n\n",
         ),
+        // lines as on Windows
+        (
+            "SELECT id -- of one\r\nFROM cars\r\nWHERE\rid = 1\r\n",
+            "ID\n1\n\n",
+        ),
+        // as many tables as a statement may have
+        (
+            "SELECT a.id, h.id AS other FROM cars a, cars b, cars c, cars d, cars e, cars f, cars g, cars h WHERE a.id = 1 AND b.id = 1 AND c.id = 1 AND d.id = 1 AND e.id = 1 AND f.id = 1 AND g.id = 1 AND h.id = 2",
+            "ID,OTHER\n1,2\n\n",
+        ),
     ] {
         let case = answered(script.as_bytes(), out);
         assert!(rt; ends_each_way(alloc, &case, OVER_CARS)?, "{script}");

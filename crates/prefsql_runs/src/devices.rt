@@ -11,9 +11,44 @@ fn each_device_fails(rt: HostRuntime) -> Result<(), Fail> {
         b"SELECT id FROM cars PREFERRING dealer = 'north'",
         "error E306 at byte 31\n",
     );
+    let columns = Case {
+        words: &["answer", "T=t.csv"],
+        files: &[(
+            "t.csv",
+            "A INTEGER NOT NULL,B INTEGER NOT NULL\n3,7\n1,9\n2,7\n",
+        )],
+        ..answered(b"SELECT * FROM T PREFERRING LOWEST(B)", "A,B\n2,7\n3,7\n\n")
+    };
     for case in [
         answer,
         refusal,
+        columns,
+        Case {
+            out_room: 5,
+            status: Status::WriteFault,
+            out: "A,B\n2",
+            ..columns
+        },
+        Case {
+            failing_load: 1,
+            status: Status::ShelfFault,
+            out: "",
+            ..columns
+        },
+        Case {
+            script: b"SELECT * FROM T PREFERRING LOWEST(C)",
+            status: Status::Refused,
+            out: "",
+            err: "error E303 at byte 34\n",
+            ..columns
+        },
+        Case {
+            files: &[("t.csv", "A TEXT\n")],
+            status: Status::Refused,
+            out: "",
+            err: "error E303 at byte 34\n",
+            ..columns
+        },
         Case {
             failing_load: 1,
             status: Status::ShelfFault,

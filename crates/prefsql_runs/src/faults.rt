@@ -101,6 +101,28 @@ fn faults_of_scripts(rt: HostRuntime) -> Result<(), Fail> {
             201,
             54,
         ),
+        // clause by clause
+        (
+            "SELECT id FROM cars PREFERRING dealer = 'x' GROUPING nowhere",
+            306,
+            31,
+        ),
+        (
+            "SELECT id FROM cars PREFERRING LOWEST(id) GROUPING nowhere BUT ONLY TOP(nothing)",
+            303,
+            51,
+        ),
+        (
+            "SELECT id FROM cars PREFERRING LOWEST(id) BUT ONLY TOP(nothing) ORDER BY size",
+            303,
+            55,
+        ),
+        // one with a distance and one with a level
+        (
+            "SELECT id FROM cars PREFERRING price AROUND 1 AND price = 5 BUT ONLY TOP(price)",
+            313,
+            73,
+        ),
     ] {
         let line = format!(in alloc; "error E{code} at byte {at}\n")?;
         assert!(rt;
@@ -109,10 +131,19 @@ fn faults_of_scripts(rt: HostRuntime) -> Result<(), Fail> {
         );
     }
     let no_text = refused(b"\xff", "error E107 at byte 0\n");
-    for words in [["answer"], ["via"], ["execute"]] {
+    let long_number = refused(
+        b"SELECT v FROM big WHERE v = 1000000000000000000",
+        "error E103 at byte 28\n",
+    );
+    for (words, case) in [
+        (["answer"], no_text),
+        (["via"], no_text),
+        (["execute"], no_text),
+        (["via"], long_number),
+    ] {
         let case = Case {
             words: &words,
-            ..no_text
+            ..case
         };
         assert!(rt; ends(alloc, &case)?);
     }
@@ -200,6 +231,15 @@ fn faults_of_tables(rt: HostRuntime) -> Result<(), Fail> {
             "error E509 in table T record 1 field 0\n"
         )?
     );
+    // as long as a table may be, and then one byte more
+    let ends_of_lines = "\n".repeat(alloc, 8_388_602)?;
+    let longest = format!(in alloc; "a TEXT{ends_of_lines}")?;
+    let case = Case {
+        words: &["answer", "T=t.csv"],
+        files: &[("t.csv", longest.as_str())],
+        ..answered(b"SELECT * FROM T", "A\n\n")
+    };
+    assert!(rt; ends(alloc, &case)?);
     let long = "x".repeat(alloc, 8_388_609)?;
     assert!(rt;
         refuses_table(
@@ -214,11 +254,17 @@ fn faults_of_tables(rt: HostRuntime) -> Result<(), Fail> {
 #[test]
 fn words_of_command_lines(rt: HostRuntime) -> Result<(), Fail> {
     let alloc = rt.alloc();
-    let words: [&[&str]; 20] = [
+    let words: [&[&str]; 23] = [
         &[],
         &[""],
         &["answer", "CARS"],
         &["answer", "CARS="],
+        &["answer", "_CARS=cars.csv"],
+        &["answer", "1=cars.csv"],
+        &[
+            "answer",
+            "CARSCARSCARSCARSCARSCARSCARSCARSCARSCARSCARSCARSCARSCARSCARSCARSC=cars.csv",
+        ],
         &[
             "answer", "A=a", "B=b", "C=c", "D=d", "E=e", "F=f", "G=g", "H=h", "I=i",
         ],
@@ -246,11 +292,24 @@ fn words_of_command_lines(rt: HostRuntime) -> Result<(), Fail> {
         };
         assert!(rt; ends(alloc, &case)?);
     }
-    let ended = Case {
-        words: &["answer", "--", "CARS=cars.csv"],
-        ..answered(CHEAPEST.as_bytes(), CHEAPEST_CARS)
-    };
-    assert!(rt; ends(alloc, &ended)?);
+    for (word, table, path) in [
+        ("CARS=cars.csv", "cars", "cars.csv"),
+        ("CARS=a=b.csv", "cars", "a=b.csv"),
+        ("c_1=cars.csv", "C_1", "cars.csv"),
+        (
+            "CARSCARSCARSCARSCARSCARSCARSCARSCARSCARSCARSCARSCARSCARSCARSCARS=cars.csv",
+            "carscarscarscarscarscarscarscarscarscarscarscarscarscarscarscars",
+            "cars.csv",
+        ),
+    ] {
+        let script = format!(in alloc; "SELECT id, price FROM {table} PREFERRING LOWEST(price)")?;
+        let case = Case {
+            words: &["answer", "--", word],
+            files: &[(path, CARS)],
+            ..answered(script.as_bytes(), CHEAPEST_CARS)
+        };
+        assert!(rt; ends(alloc, &case)?, "{word}");
+    }
     Ok(())
 }
 

@@ -56,6 +56,11 @@ fn tokens_have_kinds_values_and_spans(rt: HostRuntime) -> Result<(), Fail> {
             "0-6 name a\"b | 13-14 Star | 14-15 Semicolon | ",
         ),
         ("'--'- -", "0-4 text -- | 4-5 Minus | 6-7 Minus | "),
+        // a carriage return is a blank, and ends no comment
+        (
+            "a\rb--c\rd\r\ne",
+            "0-1 name A | 2-3 name B | 10-11 name E | ",
+        ),
     ] {
         assert_eq!(rt; all_shown(rt.alloc(), script)?.as_str(), want);
     }
