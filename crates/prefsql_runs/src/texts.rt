@@ -172,6 +172,10 @@ fn the_bench(rt: HostRuntime) -> Result<(), Fail> {
             "000012",
             "bench 12\nstatement 1 rows 6\nstatement 2 rows 9\nstatement 3 rows 1\n",
         ),
+        (
+            "100000",
+            "bench 100000\nstatement 1 rows 42\nstatement 2 rows 10\nstatement 3 rows 19\n",
+        ),
     ] {
         let case = Case {
             words: &["bench", "--", number],
