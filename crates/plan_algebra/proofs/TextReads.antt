@@ -4,10 +4,10 @@ use Rattle.std.specs.Prelude.{codes, decimal, OnOk, Result}
 use Rattle.std.proofs.lemmas.Result.{on_ok_weaker}
 use Rattle.prefsql_tables.specs.declared.place.ColumnPlace.{ColumnPlace}
 use Rattle.pref_terms.specs.declared.term.Leaf.{Leaf}
-use Rattle.pref_terms.specs.declared.term.Term.{Term, Pareto, Prior}
+use Rattle.pref_terms.specs.declared.term.Term.{Term, Pareto, Prior, Dual}
 use Rattle.pref_terms.specs.declared.term.Term as term
 use Rattle.query_meaning.specs.declared.block.Block.{Block}
-use Rattle.pref_terms.specs.Induction.{fold-Leaf, fold-Pareto, fold-Prior}
+use Rattle.pref_terms.specs.Induction.{fold-Leaf, fold-Pareto, fold-Prior, fold-Dual}
 use Rattle.plan_algebra.specs.declared.plan.Conjunct.{Conjunct}
 use Rattle.plan_algebra.specs.declared.plan.Plan.{Plan}
 use Rattle.plan_algebra.specs.declared.plan.Plan as plan
@@ -26,7 +26,11 @@ pub term-Prior : (t p q : Term) → t ≡ Prior p q → term_text t ≡ codes "(
 unfolding term_text
 term-Prior t p q is = ap term_text is ∙ fold-Prior (List ℕ) term_step p q
 
-pub ruleset term_reads = (term-Leaf, term-Pareto, term-Prior)
+pub term-Dual : (t p : Term) → t ≡ Dual p → term_text t ≡ codes "(dual " ++ term_text p ++ codes ")"
+unfolding term_text
+term-Dual t p is = ap term_text is ∙ fold-Dual (List ℕ) term_step p
+
+pub ruleset term_reads = (term-Leaf, term-Pareto, term-Prior, term-Dual)
 
 module _ (block : Block) (indent : List ℕ) where
   abbrev text : Plan → List ℕ
@@ -54,6 +58,11 @@ module _ (block : Block) (indent : List ℕ) where
 pub ruleset line_reads = (lines-Scan, lines-Filter, lines-Join, lines-Best)
 
 -- ---- texts that are added one after the other
+
+pub three_more : (t t1 t2 t3 opened inner close whole : List ℕ) → t1 ≡ t ++ opened → t2 ≡ t1 ++ inner → t3 ≡ t2 ++ close → whole ≡ opened ++ inner ++ close → t3 ≡ t ++ whole
+three_more t t1 t2 t3 opened inner close whole e1 e2 e3 is =
+    let joins : t ++ opened ++ inner ++ close ≡ t ++ (opened ++ inner ++ close) = simp append_assoc in
+    e3 ∙ ap (λ xs. xs ++ close) (e2 ∙ ap (λ xs. xs ++ inner) e1) ∙ joins ∙ ap (λ more. t ++ more) (sym is)
 
 pub five_more : (t t1 t2 t3 t4 t5 opened first between second close whole : List ℕ) → t1 ≡ t ++ opened → t2 ≡ t1 ++ first → t3 ≡ t2 ++ between → t4 ≡ t3 ++ second → t5 ≡ t4 ++ close
     → whole ≡ opened ++ first ++ between ++ second ++ close → t5 ≡ t ++ whole

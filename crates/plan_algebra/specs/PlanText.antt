@@ -18,11 +18,13 @@ use Rattle.plan_algebra.specs.declared.plan.Plan.TheOpen.{Plan-F}
 abbrev pub number_text : ℕ → List ℕ
 number_text position = decimal (position + 1)
 
--- a leaf by its number, the parts of a Pareto node and of a prioritised one in parentheses
+-- a leaf by its number, the parts of a Pareto node, of a prioritised one and of a dual one in
+-- parentheses
 abbrev pub term_step : Term-F (List ℕ) → List ℕ
 term_step (Term-F.Leaf leaf) = codes "P" ++ decimal leaf.number
 term_step (Term-F.Pareto p q) = codes "(" ++ p ++ codes " and " ++ q ++ codes ")"
 term_step (Term-F.Prior p q) = codes "(" ++ p ++ codes " cascade " ++ q ++ codes ")"
+term_step (Term-F.Dual p) = codes "(dual " ++ p ++ codes ")"
 
 unfoldable pub term_text : Term → List ℕ
 term_text = fold-Term (List ℕ) term_step

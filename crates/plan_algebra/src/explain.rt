@@ -161,6 +161,12 @@ fn add_term(term: &Term, text: &mut String) -> Result<(), Memory>
             text.push_str(")")?;
             Ok(())
         }
+        Term::Dual(inner) => {
+            text.push_str("(dual ")?;
+            add_term(inner.get(), text)?;
+            text.push_str(")")?;
+            Ok(())
+        }
     }
 }
 

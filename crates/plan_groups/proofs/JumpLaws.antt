@@ -1,5 +1,5 @@
 -- How two rows stand by each leaf that is asked decides which is better by the term.
-use Rattle.std.proofs.Common.{◌≡◌, ℕ, zero, suc, ◌+◌, ◌-◌, ◌<◌, ◌≤◌, nat_lt, ℤ, Bool, true, false, ◌&&◌, ◌||◌, if◌then◌else◌, List, [], ◌∷◌, ◌++◌, length, length-append, map, append-nil, append_assoc, drop, get_or, refl, sym, ap, ◌∙◌, inl, inr, ◌⊎◌, subst, arith}
+use Rattle.std.proofs.Common.{◌≡◌, ℕ, zero, suc, ◌+◌, ◌-◌, ◌<◌, ◌≤◌, nat_lt, ℤ, neg_ℤ, Bool, true, false, ◌&&◌, ◌||◌, if◌then◌else◌, List, [], ◌∷◌, ◌++◌, length, length-append, map, append-nil, append_assoc, drop, get_or, refl, sym, ap, ◌∙◌, inl, inr, ◌⊎◌, subst, arith}
 use Rattle.std.specs.Ordering.{is_gt, is_lt}
 use Rattle.std.specs.declared.cmp.Ordering.{Ordering}
 use Rattle.std.proofs.lemmas.Bool.{cases_Bool, false≢true}
@@ -7,14 +7,16 @@ use Rattle.std.proofs.lemmas.List.{length-map, map-append}
 use Rattle.prefsql_tables.specs.Sight.{Sight}
 use Rattle.base_prefs.specs.Kind.{key_of}
 use Rattle.pref_terms.specs.declared.term.Leaf.{Leaf}
-use Rattle.pref_terms.specs.declared.term.Term.{Term, Pareto, Prior}
+use Rattle.pref_terms.specs.declared.term.Term.{Term, Pareto, Prior, Dual}
 use Rattle.pref_terms.specs.declared.term.Term as term
 use Rattle.pref_terms.specs.declared.term.Term.TheOpen.{Term-F}
-use Rattle.pref_terms.specs.Equations.{leaves_of-Leaf, leaves_of-Pareto, leaves_of-Prior, order_of-Leaf, order_of-Pareto, order_of-Prior}
-use Rattle.pref_terms.specs.Induction.{fold-Leaf, fold-Pareto, fold-Prior, term_induction}
+use Rattle.pref_terms.specs.Equations.{leaves_of-Leaf, leaves_of-Pareto, leaves_of-Prior, leaves_of-Dual, length-keys_of, order_of-Leaf, order_of-Pareto, order_of-Prior, order_of-Dual}
+use Rattle.pref_terms.specs.Equations as equations
+use Rattle.pref_terms.proofs.Standings.{same_turned}
+use Rattle.pref_terms.specs.Induction.{fold-Leaf, fold-Pareto, fold-Prior, fold-Dual, term_induction}
 use Rattle.pref_terms.specs.Terms.{Order, keys_of, leaf_order, leaves_of, order_of, order_step}
 use Rattle.plan_groups.specs.Jumps.{Shape, is_better_by, jumps_of, outcomes, shape_of, shape_step}
-use Rattle.plan_groups.specs.Outcomes.{leaf_outcome, outcome_by, standings, stands}
+use Rattle.plan_groups.specs.Outcomes.{leaf_outcome, outcome_by, standings, standings_step, stands}
 use Rattle.plan_groups.specs.declared.jumps.Jump.{Jump}
 use Rattle.plan_groups.specs.declared.jumps.RankedLeaf.{RankedLeaf}
 
@@ -27,6 +29,9 @@ shape_of-Pareto = fold-Pareto Shape shape_step
 shape_of-Prior : (p q : Term) → shape_of (Prior p q) ≡ shape_step (Term-F.Prior (shape_of p) (shape_of q))
 shape_of-Prior = fold-Prior Shape shape_step
 
+shape_of-Dual : (p : Term) → shape_of (Dual p) ≡ shape_of p
+shape_of-Dual = fold-Dual Shape shape_step
+
 -- what is kept of a term, variant by variant
 pub width-Leaf : (t : Term) (leaf : Leaf) → t ≡ term.Leaf leaf → (shape_of t).width ≡ 1
 width-Leaf t leaf is = ap (λ (s : Shape). s.width) (ap shape_of is ∙ shape_of-Leaf leaf)
@@ -36,6 +41,9 @@ width-Pareto t p q is = ap (λ (s : Shape). s.width) (ap shape_of is ∙ shape_o
 
 pub width-Prior : (t p q : Term) → t ≡ Prior p q → (shape_of t).width ≡ (shape_of p).width + (shape_of q).width
 width-Prior t p q is = ap (λ (s : Shape). s.width) (ap shape_of is ∙ shape_of-Prior p q)
+
+pub width-Dual : (t p : Term) → t ≡ Dual p → (shape_of t).width ≡ (shape_of p).width
+width-Dual t p is = ap (λ (s : Shape). s.width) (ap shape_of is ∙ shape_of-Dual p)
 
 pub jumps-Leaf : (t : Term) (leaf : Leaf) → t ≡ term.Leaf leaf → (at start skip : ℕ) → (shape_of t).jumps at start skip ≡ record { start = start; skip = skip } ∷ []
 jumps-Leaf t leaf is at start skip = ap (λ (s : Shape). s.jumps at start skip) (ap shape_of is ∙ shape_of-Leaf leaf)
@@ -48,37 +56,40 @@ pub jumps-Prior : (t p q : Term) → t ≡ Prior p q → (at start skip : ℕ)
     → (shape_of t).jumps at start skip ≡ (shape_of p).jumps at at ((shape_of q).width + skip) ++ (shape_of q).jumps (at + (shape_of p).width) start skip
 jumps-Prior t p q is at start skip = ap (λ (s : Shape). s.jumps at start skip) (ap shape_of is ∙ shape_of-Prior p q)
 
-pub ruleset shape_reads = (width-Leaf, width-Pareto, width-Prior)
+pub jumps-Dual : (t p : Term) → t ≡ Dual p → (at start skip : ℕ) → (shape_of t).jumps at start skip ≡ (shape_of p).jumps at start skip
+jumps-Dual t p is at start skip = ap (λ (s : Shape). s.jumps at start skip) (ap shape_of is ∙ shape_of-Dual p)
+
+pub ruleset shape_reads = (width-Leaf, width-Pareto, width-Prior, width-Dual)
 
 -- the keys of a term, variant by variant
 pub keys_of-Leaf : (t : Term) (leaf : Leaf) → t ≡ term.Leaf leaf → (x : Sight) → keys_of t x ≡ key_of leaf.base (x leaf.place) ∷ []
-keys_of-Leaf t leaf is x = ap (map (λ (l : Leaf). key_of l.base (x l.place))) (ap leaves_of is ∙ leaves_of-Leaf leaf)
+keys_of-Leaf t leaf is x = ap (λ (u : Term). keys_of u x) is ∙ equations.keys_of-Leaf x leaf
 
 pub keys_of-Pareto : (t p q : Term) → t ≡ Pareto p q → (x : Sight) → keys_of t x ≡ keys_of p x ++ keys_of q x
-keys_of-Pareto t p q is x =
-    ap (map (λ (l : Leaf). key_of l.base (x l.place))) (ap leaves_of is ∙ leaves_of-Pareto p q)
-    ∙ map-append (λ (l : Leaf). key_of l.base (x l.place)) (leaves_of p) (leaves_of q)
+keys_of-Pareto t p q is x = ap (λ (u : Term). keys_of u x) is ∙ equations.keys_of-Pareto x p q
 
 pub keys_of-Prior : (t p q : Term) → t ≡ Prior p q → (x : Sight) → keys_of t x ≡ keys_of p x ++ keys_of q x
-keys_of-Prior t p q is x =
-    ap (map (λ (l : Leaf). key_of l.base (x l.place))) (ap leaves_of is ∙ leaves_of-Prior p q)
-    ∙ map-append (λ (l : Leaf). key_of l.base (x l.place)) (leaves_of p) (leaves_of q)
+keys_of-Prior t p q is x = ap (λ (u : Term). keys_of u x) is ∙ equations.keys_of-Prior x p q
+
+pub keys_of-Dual : (t p : Term) → t ≡ Dual p → (x : Sight) → keys_of t x ≡ map neg_ℤ (keys_of p x)
+keys_of-Dual t p is x = ap (λ (u : Term). keys_of u x) is ∙ equations.keys_of-Dual x p
 
 -- the standings of a term, variant by variant
 pub standings-Leaf : (t : Term) (leaf : Leaf) → t ≡ term.Leaf leaf → (y x : Sight) → standings t y x ≡ stands y x leaf ∷ []
-standings-Leaf t leaf is y x = ap (map (stands y x)) (ap leaves_of is ∙ leaves_of-Leaf leaf)
+standings-Leaf t leaf is y x = ap (λ (u : Term). standings u y x) is ∙ (λ j. fold-Leaf (Sight → Sight → List Ordering) standings_step leaf j y x)
 
 pub standings-Pareto : (t p q : Term) → t ≡ Pareto p q → (y x : Sight) → standings t y x ≡ standings p y x ++ standings q y x
-standings-Pareto t p q is y x =
-    ap (map (stands y x)) (ap leaves_of is ∙ leaves_of-Pareto p q) ∙ map-append (stands y x) (leaves_of p) (leaves_of q)
+standings-Pareto t p q is y x = ap (λ (u : Term). standings u y x) is ∙ (λ j. fold-Pareto (Sight → Sight → List Ordering) standings_step p q j y x)
 
 pub standings-Prior : (t p q : Term) → t ≡ Prior p q → (y x : Sight) → standings t y x ≡ standings p y x ++ standings q y x
-standings-Prior t p q is y x =
-    ap (map (stands y x)) (ap leaves_of is ∙ leaves_of-Prior p q) ∙ map-append (stands y x) (leaves_of p) (leaves_of q)
+standings-Prior t p q is y x = ap (λ (u : Term). standings u y x) is ∙ (λ j. fold-Prior (Sight → Sight → List Ordering) standings_step p q j y x)
+
+pub standings-Dual : (t p : Term) → t ≡ Dual p → (y x : Sight) → standings t y x ≡ standings p x y
+standings-Dual t p is y x = ap (λ (u : Term). standings u y x) is ∙ (λ j. fold-Dual (Sight → Sight → List Ordering) standings_step p j y x)
 
 -- a term has a key, a standing and a jump for each leaf
 pub keys_length : (t : Term) (x : Sight) → length (keys_of t x) ≡ length (leaves_of t)
-keys_length t x = length-map (leaves_of t) (λ (l : Leaf). key_of l.base (x l.place))
+keys_length t x = length-keys_of x t
 
 abbrev IsWide : Term → Type 0
 IsWide t = (shape_of t).width ≡ length (leaves_of t)
@@ -90,6 +101,7 @@ width_is = term_induction IsWide
     width-Pareto (Pareto p q) p q refl ∙ (λ j. first j + second j) ∙ sym (length-append (leaves_of p) (leaves_of q)) ∙ sym (ap length (leaves_of-Pareto p q)))
     (λ p q first second.
     width-Prior (Prior p q) p q refl ∙ (λ j. first j + second j) ∙ sym (length-append (leaves_of p) (leaves_of q)) ∙ sym (ap length (leaves_of-Prior p q)))
+    (λ p inner. width-Dual (Dual p) p refl ∙ inner ∙ sym (ap length (leaves_of-Dual p)))
 
 abbrev IsLong : Term → Type 0
 IsLong t = (at start skip : ℕ) → length ((shape_of t).jumps at start skip) ≡ (shape_of t).width
@@ -105,9 +117,21 @@ jumps_length = term_induction IsLong
     ap length (jumps-Prior (Prior p q) p q refl at start skip)
     ∙ length-append ((shape_of p).jumps at at ((shape_of q).width + skip)) ((shape_of q).jumps (at + (shape_of p).width) start skip)
     ∙ (λ j. first at at ((shape_of q).width + skip) j + second (at + (shape_of p).width) start skip j) ∙ sym (width-Prior (Prior p q) p q refl))
+    (λ p inner at start skip. ap length (jumps-Dual (Dual p) p refl at start skip) ∙ inner at start skip ∙ sym (width-Dual (Dual p) p refl))
 
-standings_length : (t : Term) (y x : Sight) → length (standings t y x) ≡ (shape_of t).width
-standings_length t y x = length-map (leaves_of t) (stands y x) ∙ sym (width_is t)
+abbrev IsStanding : Term → Type 0
+IsStanding t = (y x : Sight) → length (standings t y x) ≡ (shape_of t).width
+
+standings_length : (t : Term) → IsStanding t
+standings_length = term_induction IsStanding
+    (λ leaf y x. ap length (standings-Leaf (term.Leaf leaf) leaf refl y x) ∙ sym (width-Leaf (term.Leaf leaf) leaf refl))
+    (λ p q first second y x.
+    ap length (standings-Pareto (Pareto p q) p q refl y x) ∙ length-append (standings p y x) (standings q y x)
+    ∙ (λ j. first y x j + second y x j) ∙ sym (width-Pareto (Pareto p q) p q refl))
+    (λ p q first second y x.
+    ap length (standings-Prior (Prior p q) p q refl y x) ∙ length-append (standings p y x) (standings q y x)
+    ∙ (λ j. first y x j + second y x j) ∙ sym (width-Prior (Prior p q) p q refl))
+    (λ p inner y x. ap length (standings-Dual (Dual p) p refl y x) ∙ inner x y ∙ sym (width-Dual (Dual p) p refl))
 
 -- where the row is better by a leaf of the part, what is behind it is passed over
 jumped : (start skip l : ℕ) → (start < l) ⊎ (skip ≡ 0) → (if nat_lt start l then skip else 0) ≡ skip
@@ -341,19 +365,37 @@ module _ (y x : Sight) where
       later (inl h) = inl (omega (arith, h))
       later (inr h) = inr h
 
-  decides : (t : Term) → Decides t
-  decides = term_induction Decides decides_leaf decides_pareto decides_prior
+  decides_dual : (p : Term)
+      → ((at last start skip : ℕ) → last ≤ at → (start ≤ at) ⊎ (skip ≡ 0) → (js : List Jump) (os : List Ordering)
+      → Asked ((order_of p).better x y) ((order_of p).same x y) (shape_of p).width at last start skip js os (is_better_by at last 0 ((shape_of p).jumps at start skip ++ js) (standings p x y ++ os)))
+      → Decides (Dual p)
+  decides_dual p inner at last start skip before begun js os =
+      told (Dual p) (order_step (Term-F.Dual (order_of p))) (shape_of p) (standings p x y) (order_of-Dual p) (shape_of-Dual p) (standings-Dual (Dual p) p refl y x)
+      at last start skip js os
+      (subst (λ s. Asked ((order_of p).better x y) s (shape_of p).width at last start skip js os (is_better_by at last 0 ((shape_of p).jumps at start skip ++ js) (standings p x y ++ os)))
+      (same_turned p x y) (inner at last start skip before begun js os))
 
-  settled : (b s : Bool) (w : ℕ) (r : Bool) → Asked b s w 0 0 0 0 [] [] r → r ≡ b
-  settled true s w r asked = let f = asked.better refl in let some : nat_lt 0 f.0 ≡ true = grind (arith, f.1) in f.3 ∙ some
-  settled false true w r asked = asked.same refl refl
-  settled false false w r asked = asked.other refl refl
+-- below a dual term both change their sides, so it is said of both pairs
+abbrev AlwaysDecides : Term → Type 0
+AlwaysDecides t = (y x : Sight) → Decides y x t
 
-  -- how two stand by each leaf decides which is better
-  pub leaves_decide : (t : Term) → is_better_by 0 0 0 ((shape_of t).jumps 0 0 0) (standings t y x) ≡ (order_of t).better y x
-  leaves_decide t =
-      (λ j. is_better_by 0 0 0 (sym (append-nil ((shape_of t).jumps 0 0 0)) j) (sym (append-nil (standings t y x)) j))
-      ∙ settled ((order_of t).better y x) ((order_of t).same y x) (shape_of t).width _ (decides t 0 0 0 0 (omega arith) (inr refl) [] [])
+decides : (t : Term) → AlwaysDecides t
+decides = term_induction AlwaysDecides
+    (λ leaf y x. decides_leaf y x leaf)
+    (λ p q first second y x. decides_pareto y x p q (first y x) (second y x))
+    (λ p q first second y x. decides_prior y x p q (first y x) (second y x))
+    (λ p inner y x. decides_dual y x p (inner x y))
+
+settled : (b s : Bool) (w : ℕ) (r : Bool) → Asked b s w 0 0 0 0 [] [] r → r ≡ b
+settled true s w r asked = let f = asked.better refl in let some : nat_lt 0 f.0 ≡ true = grind (arith, f.1) in f.3 ∙ some
+settled false true w r asked = asked.same refl refl
+settled false false w r asked = asked.other refl refl
+
+-- how two stand by each leaf decides which is better
+pub leaves_decide : (y x : Sight) (t : Term) → is_better_by 0 0 0 ((shape_of t).jumps 0 0 0) (standings t y x) ≡ (order_of t).better y x
+leaves_decide y x t =
+    (λ j. is_better_by 0 0 0 (sym (append-nil ((shape_of t).jumps 0 0 0)) j) (sym (append-nil (standings t y x)) j))
+    ∙ settled ((order_of t).better y x) ((order_of t).same y x) (shape_of t).width _ (decides t y x 0 0 0 0 (omega arith) (inr refl) [] [])
 
 module _ (a b : ℕ) where
   -- the first of the leaves that are left

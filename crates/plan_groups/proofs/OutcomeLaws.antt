@@ -34,7 +34,9 @@ use Rattle.value_index.specs.Places.{are_equal, equal_places}
 use Rattle.value_index.proofs.Equal.{are_equal_is, equal_same}
 use Rattle.plan_groups.specs.Firsts.{first_equal, values_in}
 use Rattle.plan_groups.specs.Groups.{IsRow, row_at, seen_at, seen_by}
-use Rattle.plan_groups.specs.Outcomes.{is_graph_better, outcome_by, share, stands}
+use Rattle.plan_groups.specs.Outcomes.{TellsLeaf, graph_outcome, is_graph_better, outcome_by, share, stands}
+use Rattle.plan_groups.specs.declared.leaf_tests.LeafTest.TheVariants.{Keys, Values}
+use Rattle.pref_terms.specs.KeyLists.{int_cmp-neg}
 
 -- a judged value is not NULL
 judged_there : (kind : Kind) (v : Value) → IsJudged kind v → is_null v ≡ false
@@ -144,6 +146,12 @@ graphed (Between l u) v w explicit = absurd (false≢true explicit)
 graphed Lowest v w explicit = absurd (false≢true explicit)
 graphed Highest v w explicit = absurd (false≢true explicit)
 
+-- rows share a number whichever is named first
+share_turned : (numbers : List ℕ) (a b : ℕ) → share numbers a b ≡ share numbers b a
+share_turned numbers a b = same_tests (share numbers a b) (share numbers b a)
+    (λ h. let e : get_or numbers a 0 ≡ get_or numbers b 0 = grind (arith, h) in ap (λ n. nat_eq n (get_or numbers a 0)) (sym e) ∙ nat_eq_equiv.refl (get_or numbers a 0))
+    (λ h. let e : get_or numbers b 0 ≡ get_or numbers a 0 = grind (arith, h) in ap (λ n. nat_eq n (get_or numbers b 0)) (sym e) ∙ nat_eq_equiv.refl (get_or numbers b 0))
+
 first_among : (ks : List ℕ) → 0 < length ks → Among ks (get_or ks 0 0)
 first_among [] some = absurd (omega arith)
 first_among (k ∷ ks) some = inl refl
@@ -207,11 +215,16 @@ module _ (bound : BoundTerm) (combos : List Combo) (leaf : Leaf) (valid : IsTabl
       (λ h. let e = (value_eq-Decides (value_at a) (value_at b)).0 h in
       ap (λ v. nat_eq (first_equal values (value_at a)) (first_equal values v)) (sym e) ∙ nat_eq_equiv.refl m)
 
-  pub keys_tell : is_explicit leaf.base ≡ false → leaf.trivial ≡ false → (a b : ℕ) → IsRow bound combos a → IsRow bound combos b
+  keys_tell : is_explicit leaf.base ≡ false → leaf.trivial ≡ false → (a b : ℕ) → IsRow bound combos a → IsRow bound combos b
       → int_cmp (key_of leaf.base (value_at a)) (key_of leaf.base (value_at b)) ≡ stands (seen_at bound combos a) (seen_at bound combos b) leaf
   keys_tell weak regular a b a_row b_row = keyed leaf.base leaf.trivial (value_at a) (value_at b) weak regular
 
-  pub values_tell : (firsts : List ℕ) → firsts ≡ map (first_equal values) values → is_explicit leaf.base ≡ false → leaf.trivial ≡ true
+  pub turned_keys_tell : (turned : Bool) → is_explicit leaf.base ≡ false → leaf.trivial ≡ false → TellsLeaf bound combos turned leaf Keys
+  turned_keys_tell true weak regular a b a_row b_row =
+      int_cmp-neg (key_of leaf.base (value_at a)) (key_of leaf.base (value_at b)) ∙ keys_tell weak regular b a b_row a_row
+  turned_keys_tell false weak regular a b a_row b_row = keys_tell weak regular a b a_row b_row
+
+  values_tell : (firsts : List ℕ) → firsts ≡ map (first_equal values) values → is_explicit leaf.base ≡ false → leaf.trivial ≡ true
       → (a b : ℕ) → IsRow bound combos a → IsRow bound combos b
       → ordering_then (int_cmp (key_of leaf.base (value_at a)) (key_of leaf.base (value_at b))) (outcome_by false (share firsts a b))
       ≡ stands (seen_at bound combos a) (seen_at bound combos b) leaf
@@ -219,7 +232,14 @@ module _ (bound : BoundTerm) (combos : List Combo) (leaf : Leaf) (valid : IsTabl
       ap (λ s. ordering_then (int_cmp (key_of leaf.base (value_at a)) (key_of leaf.base (value_at b))) (outcome_by false s)) (share_values firsts are a b a_row.0 b_row.0)
       ∙ valued leaf.base leaf.trivial (value_at a) (value_at b) weak is
 
-  pub graph_tells : (places firsts : List ℕ) → places ≡ map (place_of (graph_values (edges_of leaf.base))) values → firsts ≡ map (first_equal values) values
+  pub turned_values_tell : (turned : Bool) (firsts : Vec ℕ) → firsts.items ≡ map (first_equal values) values → is_explicit leaf.base ≡ false → leaf.trivial ≡ true
+      → TellsLeaf bound combos turned leaf (Values firsts)
+  turned_values_tell true firsts are weak is a b a_row b_row =
+      (λ j. ordering_then (int_cmp-neg (key_of leaf.base (value_at a)) (key_of leaf.base (value_at b)) j) (outcome_by false (share_turned firsts.items a b j)))
+      ∙ values_tell firsts.items are weak is b a b_row a_row
+  turned_values_tell false firsts are weak is a b a_row b_row = values_tell firsts.items are weak is a b a_row b_row
+
+  graph_tells : (places firsts : List ℕ) → places ≡ map (place_of (graph_values (edges_of leaf.base))) values → firsts ≡ map (first_equal values) values
       → is_explicit leaf.base ≡ true → (a b : ℕ) → IsRow bound combos a → IsRow bound combos b
       → outcome_by (is_graph_better leaf.base (get_or places a 0) (get_or places b 0)) (share firsts a b)
       ≡ stands (seen_at bound combos a) (seen_at bound combos b) leaf
@@ -229,3 +249,10 @@ module _ (bound : BoundTerm) (combos : List Combo) (leaf : Leaf) (valid : IsTabl
       (share_values firsts firsts_are a b a_row.0 b_row.0 j))
       ∙ (λ j. outcome_by (graphed leaf.base (value_at a) (value_at b) explicit j)
       (trivial_same leaf.base leaf.trivial (value_at a) (value_at b) ((fits_at a a_row.0).trivial explicit) j))
+
+  pub turned_graph_tells : (turned : Bool) (places firsts : List ℕ) → places ≡ map (place_of (graph_values (edges_of leaf.base))) values → firsts ≡ map (first_equal values) values
+      → is_explicit leaf.base ≡ true → (a b : ℕ) → IsRow bound combos a → IsRow bound combos b
+      → (if turned then graph_outcome leaf.base places firsts b a else graph_outcome leaf.base places firsts a b)
+      ≡ (if turned then stands (seen_at bound combos b) (seen_at bound combos a) leaf else stands (seen_at bound combos a) (seen_at bound combos b) leaf)
+  turned_graph_tells true places firsts places_are firsts_are explicit a b a_row b_row = graph_tells places firsts places_are firsts_are explicit b a b_row a_row
+  turned_graph_tells false places firsts places_are firsts_are explicit a b a_row b_row = graph_tells places firsts places_are firsts_are explicit a b a_row b_row

@@ -4,6 +4,7 @@ use Rattle.std.specs.Prelude.{◌≡◌, ℕ, ◌+◌, ℤ, Bool, false, List, [
 use Rattle.std.specs.Prelude.{if◌then◌else◌}
 use Rattle.std.specs.Ordering.{is_lt, is_gt}
 use Rattle.std.specs.declared.cmp.Ordering.{Ordering}
+use Rattle.prefsql_tables.specs.Sight.{Sight}
 use Rattle.prefsql_tables.specs.declared.place.Combo.{Combo}
 use Rattle.pref_terms.specs.Terms.{keys_of}
 use Rattle.pref_terms.specs.declared.bound.BoundTerm.{BoundTerm}
@@ -11,6 +12,7 @@ use Rattle.pref_terms.specs.declared.term.Term.{Term, fold-Term}
 use Rattle.pref_terms.specs.declared.term.Term.TheOpen.{Term-F}
 use Rattle.plan_groups.specs.Groups.{IsRow, seen_at}
 use Rattle.plan_groups.specs.Outcomes.{leaf_outcome, standings}
+use Rattle.plan_groups.specs.Ranks.{turned_keys}
 use Rattle.plan_groups.specs.declared.jumps.Jump.{Jump}
 use Rattle.plan_groups.specs.declared.jumps.RankedLeaf.{RankedLeaf}
 
@@ -35,6 +37,7 @@ shape_step (Term-F.Prior p q) = record {
   width = p.width + q.width;
   jumps = λ at start skip. p.jumps at at (q.width + skip) ++ q.jumps (at + p.width) start skip;
 }
+shape_step (Term-F.Dual p) = p
 
 abbrev pub shape_of : Term → Shape
 shape_of = fold-Term Shape shape_step
@@ -62,16 +65,23 @@ outcomes (leaf ∷ leaves) (x ∷ xs) (y ∷ ys) a b =
 abbrev pub jumps_of : List RankedLeaf → List Jump
 jumps_of = map (λ (leaf : RankedLeaf). leaf.jump)
 
--- what is kept of the rows tells how they stand by the leaves of the term
-abbrev pub Tells : BoundTerm → List Combo → Term → List RankedLeaf → Type 0
-Tells bound combos term leaves = (a b : ℕ) → IsRow bound combos a → IsRow bound combos b
-    → outcomes leaves (keys_of term (seen_at bound combos a)) (keys_of term (seen_at bound combos b))
-    a b ≡ standings term (seen_at bound combos a) (seen_at bound combos b)
+-- how two stand by each leaf of the term, or of the term turned round
+abbrev pub turned_standings : Bool → Term → Sight → Sight → List Ordering
+turned_standings turned term y x = if turned then standings term x y else standings term y x
 
--- leaves put behind the old ones, which tell how rows stand by the leaves of the term
-pub record AddsLeaves (bound : BoundTerm) (combos : List Combo) (term : Term) (start skip : ℕ)
-    (old new : List RankedLeaf) : Type 0 where
+-- what is kept of the rows tells how they stand by the leaves of the term, or of the term turned
+-- round
+abbrev pub Tells : BoundTerm → List Combo → Bool → Term → List RankedLeaf → Type 0
+Tells bound combos turned term leaves = (a b : ℕ) → IsRow bound combos a → IsRow bound combos b
+    → outcomes leaves (turned_keys turned (keys_of term (seen_at bound combos a)))
+    (turned_keys turned (keys_of term (seen_at bound combos b))) a b
+    ≡ turned_standings turned term (seen_at bound combos a) (seen_at bound combos b)
+
+-- leaves put behind the old ones, which tell how rows stand by the leaves of the term, or of the term
+-- turned round
+pub record AddsLeaves (bound : BoundTerm) (combos : List Combo) (turned : Bool) (term : Term)
+    (start skip : ℕ) (old new : List RankedLeaf) : Type 0 where
   pub added : List RankedLeaf
   pub is : new ≡ old ++ added
   pub jumps_are : jumps_of added ≡ (shape_of term).jumps (length old) start skip
-  pub tells : Tells bound combos term added
+  pub tells : Tells bound combos turned term added

@@ -1,6 +1,6 @@
 //! The leaves of a term in the order in which they are asked, and which of two rows is better by
 //! them.
-ghost use Rattle.std.specs.Prelude.{◌≡◌, ◌+◌, ◌<◌, ◌≤◌, ◌^◌, All, IfOk, OnOk, length, nat_lt, if◌then◌else◌};
+ghost use Rattle.std.specs.Prelude.{◌≡◌, ◌+◌, ◌<◌, ◌≤◌, ◌^◌, All, IfOk, OnOk, false, length, nat_lt, if◌then◌else◌};
 ghost use Rattle.std.specs.Ordering.{int_cmp, is_lt};
 ghost use Rattle.std.specs.Cmp.Lexicographic.{slice_cmp};
 ghost use Rattle.pref_terms.specs.Fits.{LeavesFit};
@@ -42,19 +42,20 @@ pub(crate) fn ranked_leaves<'t>(
     ensures jumps { IfOk result
         (λ leaves. jumps_of leaves.items ≡ (shape_of bound.now.term.now).jumps 0 0 0) }
     ensures tells { IfOk result
-        (λ leaves. Tells bound.now combos.now bound.now.term.now leaves.items) }
+        (λ leaves. Tells bound.now combos.now false bound.now.term.now leaves.items) }
 {
     let mut leaves = Vec::new(alloc);
     let none = Jump { start: 0, skip: 0 };
-    push_leaves(alloc, bound, bound.term, none, combos, &mut leaves)?;
+    push_leaves(alloc, bound, bound.term, false, none, combos, &mut leaves)?;
     Ok(leaves)
 }
 
-/// Adds the leaves of the term. The jump is that behind its last one.
+/// Adds the leaves of the term, or of the term turned round. The jump is that behind its last one.
 fn push_leaves<'t>(
     alloc: Global,
     bound: &BoundTerm<'t>,
     term: &'t Term,
+    turned: bool,
     jump: Jump,
     combos: &[Combo],
     leaves: &mut Vec<RankedLeaf<'t>>,
@@ -62,24 +63,27 @@ fn push_leaves<'t>(
     requires { All (λ combo.
         LeavesFit bound.now.tables.now bound.now.from.now bound.now.first combo.rows term.now)
         combos.now }
-    ensures { OnOk result (AddsLeaves bound.now combos.now term.now jump.start jump.skip
+    ensures { OnOk result (AddsLeaves bound.now combos.now turned term.now jump.start jump.skip
         leaves.old.items leaves.new.items) }
 {
     match term {
         Term::Leaf(leaf) => {
-            let test = leaf_test(alloc, bound, leaf, combos)?;
+            let test = leaf_test(alloc, bound, leaf, turned, combos)?;
             leaves.push(RankedLeaf { test, jump })?;
             Ok(())
         }
         Term::Pareto(first, second) => {
             let none = Jump { start: 0, skip: 0 };
-            push_leaves(alloc, bound, first.get(), none, combos, leaves)?;
-            push_leaves(alloc, bound, second.get(), jump, combos, leaves)
+            push_leaves(alloc, bound, first.get(), turned, none, combos, leaves)?;
+            push_leaves(alloc, bound, second.get(), turned, jump, combos, leaves)
         }
         Term::Prior(first, second) => {
             let over = jump_over(second.get(), leaves.len(), jump.skip)?;
-            push_leaves(alloc, bound, first.get(), over, combos, leaves)?;
-            push_leaves(alloc, bound, second.get(), jump, combos, leaves)
+            push_leaves(alloc, bound, first.get(), turned, over, combos, leaves)?;
+            push_leaves(alloc, bound, second.get(), turned, jump, combos, leaves)
+        }
+        Term::Dual(inner) => {
+            push_leaves(alloc, bound, inner.get(), !turned, jump, combos, leaves)
         }
     }
 }
@@ -111,6 +115,7 @@ fn leaf_count(term: &Term) -> Result<usize, Memory>
             let count = leaf_count(first.get())?;
             sum(count, leaf_count(second.get())?)
         }
+        Term::Dual(inner) => leaf_count(inner.get()),
     }
 }
 

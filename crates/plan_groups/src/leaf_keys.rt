@@ -7,7 +7,7 @@ ghost use Rattle.pref_terms.specs.Ranks.{is_highest};
 ghost use Rattle.pref_terms.specs.Terms.{keys_of};
 ghost use Rattle.plan_groups.specs.Groups.{seen_by};
 ghost use Rattle.plan_groups.specs.Groups as groups;
-ghost use Rattle.plan_groups.specs.Ranks.{keys_of_rows};
+ghost use Rattle.plan_groups.specs.Ranks.{keys_of_rows, turned_keys};
 
 use base_prefs::{BasePref, BaseView};
 use pref_terms::{BoundTerm, Leaf, Term};
@@ -28,36 +28,41 @@ pub(crate) fn keys_of_rows(
 {
     let mut keys = Vec::with_capacity(alloc, combos.len().saturating_mul(width))?;
     for combo in combos {
-        push_keys(bound, bound.term, combo, &mut keys)?;
+        push_keys(bound, bound.term, false, combo, &mut keys)?;
     }
     Ok(keys)
 }
 
-/// Adds the keys of the row by the leaves of the term, in their order.
+/// Adds the keys of the row by the leaves of the term, in their order, with their signs changed where
+/// the term is turned round.
 fn push_keys(
     bound: &BoundTerm<'_>,
     term: &Term,
+    turned: bool,
     combo: &Combo,
     keys: &mut Vec<i128>,
 ) -> Result<(), Memory>
     requires { LeavesFit bound.now.tables.now bound.now.from.now bound.now.first combo.now.rows
         term.now }
     ensures { OnOk result
-        (keys.new.items ≡ keys.old.items ++ keys_of term.now (seen_by bound.now combo.now)) }
+        (keys.new.items
+        ≡ keys.old.items ++ turned_keys turned (keys_of term.now (seen_by bound.now combo.now))) }
 {
     match term {
         Term::Leaf(leaf) => {
-            keys.push(leaf_key(bound, leaf, combo))?;
+            let key = leaf_key(bound, leaf, combo);
+            keys.push(if turned { -key } else { key })?;
             Ok(())
         }
         Term::Pareto(first, second) => {
-            push_keys(bound, first.get(), combo, keys)?;
-            push_keys(bound, second.get(), combo, keys)
+            push_keys(bound, first.get(), turned, combo, keys)?;
+            push_keys(bound, second.get(), turned, combo, keys)
         }
         Term::Prior(first, second) => {
-            push_keys(bound, first.get(), combo, keys)?;
-            push_keys(bound, second.get(), combo, keys)
+            push_keys(bound, first.get(), turned, combo, keys)?;
+            push_keys(bound, second.get(), turned, combo, keys)
         }
+        Term::Dual(inner) => push_keys(bound, inner.get(), !turned, combo, keys),
     }
 }
 

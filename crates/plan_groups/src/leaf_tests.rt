@@ -6,7 +6,7 @@ ghost use Rattle.base_prefs.specs.Graph.{graph_values};
 ghost use Rattle.base_prefs.specs.Kind.{edges_of, is_explicit};
 ghost use Rattle.base_prefs.specs.Values.{place_of};
 ghost use Rattle.plan_groups.specs.Firsts.{first_equal, values_in};
-ghost use Rattle.plan_groups.specs.Outcomes.{TellsLeaf, is_graph_better, leaf_outcome, outcome_by, share};
+ghost use Rattle.plan_groups.specs.Outcomes.{TellsLeaf, graph_outcome, is_graph_better, leaf_outcome, outcome_by, share};
 ghost use Rattle.pref_terms.specs.Fits.{LeafFits};
 
 use base_prefs::{BasePref, BaseView};
@@ -26,13 +26,14 @@ pub(crate) enum LeafTest<'t> {
     /// there is the place of the first one with its value.
     Values(Vec<usize>),
     /// The places of their values in the list of a graph, and for what is the same those of the
-    /// first rows with their values.
-    Graph(&'t BasePref, Vec<usize>, Vec<usize>),
+    /// first rows with their values; and whether the leaf is turned.
+    Graph(&'t BasePref, Vec<usize>, Vec<usize>, bool),
 }
 
 impl LeafTest<'_> {
-    /// How the row at the place `a` stands to that at `b`, where `x` and `y` are their keys: before
-    /// it where it is better, equal where it is the same, else behind it.
+    /// How the row at the place `a` stands to that at `b`, where `x` and `y` are their keys, with
+    /// their signs changed where the leaf is turned: before it where it is better, equal where it is
+    /// the same, else behind it.
     pub fn outcome(&self, x: i128, y: i128, a: usize, b: usize) -> Ordering
         ensures { result ≡ leaf_outcome self.now x y a b }
     {
@@ -42,16 +43,32 @@ impl LeafTest<'_> {
                 Ordering::Equal => tie(share(firsts.as_slice(), a, b)),
                 ordering => ordering,
             },
-            LeafTest::Graph(base, places, firsts) => {
-                let upper = number_at(places.as_slice(), a);
-                let lower = number_at(places.as_slice(), b);
-                if is_graph_better(base, upper, lower) {
-                    Ordering::Less
+            LeafTest::Graph(base, places, firsts, turned) => {
+                let (places, firsts) = (places.as_slice(), firsts.as_slice());
+                if *turned {
+                    graph_outcome(base, places, firsts, b, a)
                 } else {
-                    tie(share(firsts.as_slice(), a, b))
+                    graph_outcome(base, places, firsts, a, b)
                 }
             }
         }
+    }
+}
+
+/// How the row at the place `a` stands to that at `b` by a graph.
+fn graph_outcome(
+    base: &BasePref,
+    places: &[usize],
+    firsts: &[usize],
+    a: usize,
+    b: usize,
+) -> Ordering
+    ensures { result ≡ graph_outcome base.now places.now firsts.now a b }
+{
+    if is_graph_better(base, number_at(places, a), number_at(places, b)) {
+        Ordering::Less
+    } else {
+        tie(share(firsts, a, b))
     }
 }
 
@@ -68,21 +85,23 @@ pub(crate) fn key_order(x: i128, y: i128) -> Ordering
     }
 }
 
-/// What is to be compared at the leaf, with the numbers of all rows.
+/// What is to be compared at the leaf, with the numbers of all rows. It is turned below an odd number
+/// of duals.
 pub(crate) fn leaf_test<'t>(
     alloc: Global,
     bound: &BoundTerm<'t>,
     leaf: &'t Leaf,
+    turned: bool,
     combos: &[Combo],
 ) -> Result<LeafTest<'t>, Memory>
     requires { All (λ combo.
         LeafFits bound.now.tables.now bound.now.from.now bound.now.first combo.rows leaf.now)
         combos.now }
-    ensures { IfOk result (TellsLeaf bound.now combos.now leaf.now) }
+    ensures { IfOk result (TellsLeaf bound.now combos.now turned leaf.now) }
 {
     bound.tables.keeps_limits();
     if !leaf.base.is_weak() {
-        return graph_test(alloc, bound, leaf, combos);
+        return graph_test(alloc, bound, leaf, turned, combos);
     }
     if !leaf.trivial {
         return Ok(LeafTest::Keys);
@@ -96,19 +115,20 @@ fn graph_test<'t>(
     alloc: Global,
     bound: &BoundTerm<'t>,
     leaf: &'t Leaf,
+    turned: bool,
     combos: &[Combo],
 ) -> Result<LeafTest<'t>, Memory>
     requires explicit { IsTrue (is_explicit leaf.now.base) }
     requires fits { All (λ combo.
         LeafFits bound.now.tables.now bound.now.from.now bound.now.first combo.rows leaf.now)
         combos.now }
-    ensures { IfOk result (TellsLeaf bound.now combos.now leaf.now) }
+    ensures { IfOk result (TellsLeaf bound.now combos.now turned leaf.now) }
 {
     bound.tables.keeps_limits();
     let cells = cells_of(alloc, bound, leaf, combos)?;
     let places = graph_places(alloc, &leaf.base, cells.as_slice())?;
     let firsts = firsts_of(alloc, cells.as_slice())?;
-    Ok(LeafTest::Graph(&leaf.base, places, firsts))
+    Ok(LeafTest::Graph(&leaf.base, places, firsts, turned))
 }
 
 /// The cells of the rows in the column of the leaf.

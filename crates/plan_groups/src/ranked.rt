@@ -1,6 +1,6 @@
 //! A preference of the rows of a list, by their places, that compares keys which were computed
 //! once.
-ghost use Rattle.std.specs.Prelude.{◌≡◌, ◌<◌, [], length};
+ghost use Rattle.std.specs.Prelude.{◌≡◌, ◌<◌, [], false, length};
 ghost use Rattle.std.specs.Ordering.{on};
 ghost use Rattle.pref_terms.specs.Terms.{key_order, keys_of, leaves_of, order_of};
 ghost use Rattle.plan_groups.specs.Groups.{IsRow, row_at, seen_at};
@@ -27,7 +27,7 @@ pub(crate) struct RankedRows<'t> {
     pub leaves: Vec<RankedLeaf<'t>>,
     ghost keys_there: { keys.items ≡ keys_of_rows bound.now combos.now },
     ghost jumps_there: { jumps_of leaves.items ≡ (shape_of bound.now.term.now).jumps 0 0 0 },
-    ghost tells: { Tells bound.now combos.now bound.now.term.now leaves.items },
+    ghost tells: { Tells bound.now combos.now false bound.now.term.now leaves.items },
 }
 
 impl<'t> RankedRows<'t> {

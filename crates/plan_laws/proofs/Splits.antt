@@ -13,7 +13,7 @@ use Rattle.order_laws.proofs.BestLaws.{RespectsAmong, best-prior}
 use Rattle.order_laws.proofs.Grouped.{grouped_lawful}
 use Rattle.order_laws.proofs.Members.{Among}
 use Rattle.order_laws.specs.Combine.{prior_better}
-use Rattle.plan_stages.proofs.RankReads.{ranks-Leaf, ranks-Pareto, ranks-Prior}
+use Rattle.plan_stages.proofs.RankReads.{ranks-Leaf, ranks-Pareto, ranks-Prior, ranks-Dual}
 use Rattle.plan_stages.specs.Separation.{cascade_of, ranks_all, separated}
 use Rattle.pref_terms.proofs.CascadeLaws.{Alike, alike_back, before, chain, chain_one, nested_ranks, parts_rank, some_part}
 use Rattle.pref_terms.specs.Cascades.{nested, parts_of}
@@ -22,7 +22,7 @@ use Rattle.base_prefs.specs.Kind.{better_of, is_explicit, key_of, same_of}
 use Rattle.base_prefs.specs.declared.kind.Kind.{Kind}
 use Rattle.base_prefs.specs.declared.kind.Kind.TheVariants.{Explicit}
 use Rattle.pref_terms.specs.declared.term.Leaf.{Leaf}
-use Rattle.pref_terms.specs.declared.term.Term.{Term, Pareto, Prior}
+use Rattle.pref_terms.specs.declared.term.Term.{Term, Pareto, Prior, Dual}
 use Rattle.pref_terms.specs.declared.term.Term as term
 use Rattle.pref_terms.specs.BoundLaws.{same_group-equivalence}
 use Rattle.pref_terms.specs.Equations.{order_of-Leaf}
@@ -63,6 +63,7 @@ part_ranks : (t : Term) → RanksAll t
 part_ranks = term_induction RanksAll leaf_ranks
     (λ p q first second h. absurd (both_ways (ranks_all (Pareto p q)) (ranks-Pareto p q) h))
     (λ p q first second h. absurd (both_ways (ranks_all (Prior p q)) (ranks-Prior p q) h))
+    (λ p inner h. absurd (both_ways (ranks_all (Dual p)) (ranks-Dual p) h))
 
 -- ---- the best, one term after the other
 

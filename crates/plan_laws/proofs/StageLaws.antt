@@ -26,11 +26,11 @@ use Rattle.plan_stages.specs.Placing.{at_join, at_scan}
 use Rattle.plan_stages.specs.Separation.{cascade_of}
 use Rattle.plan_stages.specs.Sinking.{is_sunk, lowered, sinks, staying, sunk}
 use Rattle.plan_stages.specs.Stages.{best_above, best_scan, bests_above, block_plan, cascade_above, filtered, filtered_scan, first_plan, joined, joined_best, joined_low, joins_of, only_plan, prefilter_plan, table_groups, table_term, where_plan}
-use Rattle.pref_terms.proofs.CascadeLaws.{parts-Leaf, parts-Pareto, parts-Prior}
+use Rattle.pref_terms.proofs.CascadeLaws.{parts-Leaf, parts-Pareto, parts-Prior, parts-Dual}
 use Rattle.pref_terms.specs.Cascades.{parts_of}
 use Rattle.query_meaning.specs.Valid.{IsValidBlock}
 use Rattle.pref_terms.specs.declared.term.Leaf.{Leaf}
-use Rattle.pref_terms.specs.declared.term.Term.{Term, Pareto, Prior}
+use Rattle.pref_terms.specs.declared.term.Term.{Term, Pareto, Prior, Dual}
 use Rattle.pref_terms.specs.declared.term.Term as term
 use Rattle.pref_terms.specs.BoundLaws.{same_group-equivalence}
 use Rattle.pref_terms.specs.Equations.{leaves_of-Prior}
@@ -58,6 +58,7 @@ part_leaves = term_induction (λ t. (part : Term) → Among (parts_of t) part �
     subst (λ (ls : List Leaf). Among ls leaf) (sym (leaves_of-Prior p q))
     (⊎_elim (λ b. among_front (leaves_of p) (leaves_of q) leaf (first part b leaf there)) (λ b. among_back (leaves_of p) (leaves_of q) leaf (second part b leaf there))
     (among_either (parts_of p) (parts_of q) part (subst (λ (ps : List Term). Among ps part) (parts-Prior p q) a))))
+    (λ p inner part a leaf there. the_one (Dual p) part (subst (λ (ps : List Term). Among ps part) (parts-Dual p) a) leaf there)
   where
     the_one : (t part : Term) → Among (t ∷ []) part → (leaf : Leaf) → Among (leaves_of part) leaf → Among (leaves_of t) leaf
     the_one t part (inl e) leaf there = subst (λ (u : Term). Among (leaves_of u) leaf) (sym e) there

@@ -17,12 +17,12 @@ use Rattle.plan_stages.specs.Placing.{at_join, at_scan, is_at_join, is_at_scan, 
 use Rattle.plan_stages.specs.Separation.{cascade_of, ranks_all, separated}
 use Rattle.plan_stages.specs.Sinking.{is_place_in, is_sunk, lowered, staying, sunk}
 use Rattle.plan_stages.specs.Stages.{best_above, best_scan, bests_above, block_plan, cascade_above, filtered, filtered_scan, first_plan, joined, joined_best, joined_low, joins_of, joint_places, only_plan, prefilter_plan, table_groups, table_places, table_term, where_plan}
-use Rattle.pref_terms.proofs.CascadeLaws.{parts-Leaf, parts-Pareto, parts-Prior}
+use Rattle.pref_terms.proofs.CascadeLaws.{parts-Leaf, parts-Pareto, parts-Prior, parts-Dual}
 use Rattle.pref_terms.specs.Cascades.{nested, parts_of}
 use Rattle.query_meaning.specs.Valid.{IsValidBlock, block_leaves}
 use Rattle.std.proofs.lemmas.Grind.{flat_map-append}
 use Rattle.pref_terms.specs.declared.term.Leaf.{Leaf}
-use Rattle.pref_terms.specs.declared.term.Term.{Term, Pareto, Prior}
+use Rattle.pref_terms.specs.declared.term.Term.{Term, Pareto, Prior, Dual}
 use Rattle.pref_terms.specs.declared.term.Term as term
 use Rattle.pref_terms.specs.Equations.{leaves_of-Prior}
 use Rattle.pref_terms.specs.Induction.{term_induction}
@@ -96,6 +96,7 @@ leaves-parts = term_induction (λ t. flat_map leaves_of (parts_of t) ≡ leaves_
     ap (flat_map leaves_of) (parts-Prior p q)
     ∙ flat_map-append leaves_of (parts_of p) (parts_of q)
     ∙ (λ j. first j ++ second j) ∙ sym (leaves_of-Prior p q))
+    (λ p inner. ap (flat_map leaves_of) (parts-Dual p) ∙ append-nil (leaves_of (Dual p)))
 
 leaves-if : (b : Bool) (part next : Term) (more : List Term) → flat_map leaves_of (separated (next ∷ more)) ≡ flat_map leaves_of (next ∷ more)
     → flat_map leaves_of (if b then part ∷ separated (next ∷ more) else nested part (next ∷ more) ∷ []) ≡ leaves_of part ++ flat_map leaves_of (next ∷ more)

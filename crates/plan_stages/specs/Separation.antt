@@ -11,6 +11,7 @@ abbrev pub ranks_step : Term-F Bool → Bool
 ranks_step (Term-F.Leaf leaf) = not leaf.trivial && not (is_explicit leaf.base)
 ranks_step (Term-F.Pareto p q) = false
 ranks_step (Term-F.Prior p q) = false
+ranks_step (Term-F.Dual p) = false
 
 abbrev pub ranks_all : Term → Bool
 ranks_all = fold-Term Bool ranks_step

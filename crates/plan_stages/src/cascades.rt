@@ -25,6 +25,10 @@ fn add_parts(alloc: Global, term: &Term, parts: &mut Vec<Term>) -> Result<(), Me
             add_parts(alloc, first.get(), parts)?;
             add_parts(alloc, second.get(), parts)
         }
+        Term::Dual(_) => {
+            parts.push(term.copy(alloc)?)?;
+            Ok(())
+        }
     }
 }
 
@@ -37,6 +41,7 @@ fn ranks_all(term: &Term) -> bool
         Term::Leaf(leaf) => !leaf.trivial && leaf.base.is_weak(),
         Term::Pareto(_, _) => false,
         Term::Prior(_, _) => false,
+        Term::Dual(_) => false,
     }
 }
 

@@ -15,13 +15,13 @@ use Rattle.base_prefs.specs.Kind.{IsSame, key_of, same_of}
 use Rattle.base_prefs.specs.KindLimits.{IsSound}
 use Rattle.base_prefs.proofs.KindMeaning.{better_of-Decides}
 use Rattle.pref_terms.specs.declared.term.Leaf.{Leaf}
-use Rattle.pref_terms.specs.declared.term.Term.{Term, Pareto, Prior}
+use Rattle.pref_terms.specs.declared.term.Term.{Term, Pareto, Prior, Dual}
 use Rattle.pref_terms.specs.declared.term.Term as term
 use Rattle.pref_terms.specs.declared.term.Term.TheOpen.{Term-F}
 use Rattle.pref_terms.specs.declared.term.Term.TheFolds.{rec-roll-Term}
-use Rattle.pref_terms.specs.declared.term.Term.TheViews.{rolls-Leaf, rolls-Pareto, rolls-Prior}
-use Rattle.pref_terms.specs.Betters.{IsDecidedBy, IsSoundLeaf, Relation, leaf_relation, pareto_relation, prior_relation, relation_of, relation_step}
-use Rattle.pref_terms.specs.Equations.{leaves_of-Leaf, leaves_of-Pareto, leaves_of-Prior, order_of-Leaf, order_of-Pareto, order_of-Prior}
+use Rattle.pref_terms.specs.declared.term.Term.TheViews.{rolls-Leaf, rolls-Pareto, rolls-Prior, rolls-Dual}
+use Rattle.pref_terms.specs.Betters.{IsDecidedBy, IsSoundLeaf, Relation, dual_relation, leaf_relation, pareto_relation, prior_relation, relation_of, relation_step}
+use Rattle.pref_terms.specs.Equations.{leaves_of-Leaf, leaves_of-Pareto, leaves_of-Prior, leaves_of-Dual, order_of-Leaf, order_of-Pareto, order_of-Prior, order_of-Dual}
 use Rattle.pref_terms.specs.Induction.{term_induction}
 use Rattle.pref_terms.specs.TermLaws.{All-first, All-second}
 use Rattle.pref_terms.specs.Terms.{Order, leaf_order, leaves_of, order_of, order_step}
@@ -31,6 +31,7 @@ natural : (X : Type 0) (whole : X → Term) (relation : Term → Relation) (laye
 natural X whole relation (Term-F.Leaf leaf) = refl
 natural X whole relation (Term-F.Pareto p q) = refl
 natural X whole relation (Term-F.Prior p q) = refl
+natural X whole relation (Term-F.Dual p) = refl
 
 pub relation_of-Leaf : (leaf : Leaf) → relation_of (term.Leaf leaf) ≡ leaf_relation leaf
 relation_of-Leaf leaf = ap relation_of (sym (rolls-Leaf leaf)) ∙ rec-roll-Term Relation relation_step natural (Term-F.Leaf leaf)
@@ -40,6 +41,9 @@ relation_of-Pareto p q = ap relation_of (sym (rolls-Pareto p q)) ∙ rec-roll-Te
 
 pub relation_of-Prior : (p q : Term) → relation_of (Prior p q) ≡ prior_relation (relation_of p) (relation_of q)
 relation_of-Prior p q = ap relation_of (sym (rolls-Prior p q)) ∙ rec-roll-Term Relation relation_step natural (Term-F.Prior p q)
+
+pub relation_of-Dual : (p : Term) → relation_of (Dual p) ≡ dual_relation (relation_of p)
+relation_of-Dual p = ap relation_of (sym (rolls-Dual p)) ∙ rec-roll-Term Relation relation_step natural (Term-F.Dual p)
 
 equal_cases : (a b : ℤ) (o : Ordering) → MatchOrdering o (a <ℤ b) (a ≡ b) (b <ℤ a) → Decides (is_eq o) (a ≡ b)
 equal_cases a b Less m = (λ h. absurd (false≢true h), λ h. absurd (omega (arith, ints, h, m)))
@@ -87,9 +91,17 @@ prior_decided p q first second sound =
       same = λ y x. Decides-and _ _ (f.same y x) (g.same y x);
     })
 
+dual_decided : (p : Term) → IsTermDecided p → IsTermDecided (Dual p)
+dual_decided p inner sound =
+    let f = inner (subst (All IsSoundLeaf) (leaves_of-Dual p) sound) in
+    decided_along (Dual p) (dual_relation (relation_of p)) (order_step (Term-F.Dual (order_of p))) (relation_of-Dual p) (order_of-Dual p) (record {
+      better = λ y x. f.better x y;
+      same = λ y x. f.same y x;
+    })
+
 -- the order of a term decides its relation
 pub term_decided : (t : Term) → IsTermDecided t
-term_decided = term_induction IsTermDecided leaf_decided pareto_decided prior_decided
+term_decided = term_induction IsTermDecided leaf_decided pareto_decided prior_decided dual_decided
 
 -- the leaves of both parts are the leaves of a term
 pub sound-Leaf : (t : Term) (leaf : Leaf) → t ≡ term.Leaf leaf → IsSoundLeaf leaf → All IsSoundLeaf (leaves_of t)
@@ -101,4 +113,7 @@ sound-Pareto t p q is first second = rw (is, leaves_of-Pareto p q) (All-append I
 pub sound-Prior : (t p q : Term) → t ≡ Prior p q → All IsSoundLeaf (leaves_of p) → All IsSoundLeaf (leaves_of q) → All IsSoundLeaf (leaves_of t)
 sound-Prior t p q is first second = rw (is, leaves_of-Prior p q) (All-append IsSoundLeaf (leaves_of p) (leaves_of q) first second)
 
-pub ruleset sounds = (sound-Leaf, sound-Pareto, sound-Prior)
+pub sound-Dual : (t p : Term) → t ≡ Dual p → All IsSoundLeaf (leaves_of p) → All IsSoundLeaf (leaves_of t)
+sound-Dual t p is inner = rw (is, leaves_of-Dual p) inner
+
+pub ruleset sounds = (sound-Leaf, sound-Pareto, sound-Prior, sound-Dual)

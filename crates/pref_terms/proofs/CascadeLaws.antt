@@ -4,11 +4,11 @@ use Rattle.std.specs.Ordering.{eq_of_both}
 use Rattle.prefsql_tables.specs.Sight.{Sight}
 use Rattle.order_laws.specs.Combine.{prior_better}
 use Rattle.pref_terms.specs.declared.term.Leaf.{Leaf}
-use Rattle.pref_terms.specs.declared.term.Term.{Term, Pareto, Prior}
+use Rattle.pref_terms.specs.declared.term.Term.{Term, Pareto, Prior, Dual}
 use Rattle.pref_terms.specs.declared.term.Term as term
 use Rattle.pref_terms.specs.Cascades.{Opened, nested, open_step, opened, parts_of}
 use Rattle.pref_terms.specs.Equations.{order_of-Prior}
-use Rattle.pref_terms.specs.Induction.{fold-Leaf, fold-Pareto, fold-Prior, term_induction}
+use Rattle.pref_terms.specs.Induction.{fold-Leaf, fold-Pareto, fold-Prior, fold-Dual, term_induction}
 use Rattle.pref_terms.specs.Terms.{Order, order_of}
 
 abbrev pub none_first : Order
@@ -94,11 +94,15 @@ opened-Pareto = fold-Pareto Opened open_step
 pub opened-Prior : (p q : Term) → opened (Prior p q) ≡ record { whole = Prior (opened p).whole (opened q).whole; parts = (opened p).parts ++ (opened q).parts }
 opened-Prior = fold-Prior Opened open_step
 
+pub opened-Dual : (p : Term) → opened (Dual p) ≡ record { whole = Dual (opened p).whole; parts = Dual (opened p).whole ∷ [] }
+opened-Dual = fold-Dual Opened open_step
+
 pub whole_is : (t : Term) → (opened t).whole ≡ t
 whole_is = term_induction (λ t. (opened t).whole ≡ t)
     (λ leaf. ap (λ (o : Opened). o.whole) (opened-Leaf leaf))
     (λ p q first second. ap (λ (o : Opened). o.whole) (opened-Pareto p q) ∙ (λ j. Pareto (first j) (second j)))
     (λ p q first second. ap (λ (o : Opened). o.whole) (opened-Prior p q) ∙ (λ j. Prior (first j) (second j)))
+    (λ p inner. ap (λ (o : Opened). o.whole) (opened-Dual p) ∙ (λ j. Dual (inner j)))
 
 pub parts-Leaf : (leaf : Leaf) → parts_of (term.Leaf leaf) ≡ term.Leaf leaf ∷ []
 parts-Leaf leaf = ap (λ (o : Opened). o.parts) (opened-Leaf leaf)
@@ -108,6 +112,9 @@ parts-Pareto p q = ap (λ (o : Opened). o.parts) (opened-Pareto p q) ∙ (λ j. 
 
 pub parts-Prior : (p q : Term) → parts_of (Prior p q) ≡ parts_of p ++ parts_of q
 parts-Prior p q = ap (λ (o : Opened). o.parts) (opened-Prior p q)
+
+pub parts-Dual : (p : Term) → parts_of (Dual p) ≡ Dual p ∷ []
+parts-Dual p = ap (λ (o : Opened). o.parts) (opened-Dual p) ∙ (λ j. Dual (whole_is p j) ∷ [])
 
 -- a term ranks as the chain of its parts
 pub parts_rank : (t : Term) → Alike (order_of t) (chain (parts_of t))
@@ -119,6 +126,7 @@ parts_rank = term_induction (λ t. Alike (order_of t) (chain (parts_of t)))
     (alike_on _ _ _ (prior_is_before p q)
     (alike_on _ _ _ (alike_before (order_of p) (chain (parts_of p)) (order_of q) (chain (parts_of q)) first second)
     (alike_back _ _ (chain_append (parts_of p) (parts_of q))))))
+    (λ p inner. subst (λ parts. Alike (order_of (Dual p)) (chain parts)) (sym (parts-Dual p)) (chain_one (Dual p)))
 
 -- and so does what is nested from them
 pub nested_ranks : (first : Term) (parts : List Term) → Alike (order_of (nested first parts)) (chain (first ∷ parts))
@@ -134,6 +142,7 @@ some_part = term_induction (λ t. (part : Term) × (more : List Term) × (parts_
     (λ leaf. (term.Leaf leaf, [], parts-Leaf leaf))
     (λ p q first second. (Pareto p q, [], parts-Pareto p q))
     (λ p q first second. (first.0, first.1 ++ parts_of q, parts-Prior p q ∙ ap (λ ps. ps ++ parts_of q) first.2))
+    (λ p inner. (Dual p, [], parts-Dual p))
 
 -- the parts of a term that is known to be this variant
 pub parts_of-Leaf : (t : Term) (leaf : Leaf) → t ≡ term.Leaf leaf → parts_of t ≡ t ∷ []
@@ -145,4 +154,7 @@ parts_of-Pareto t p q is = rw is (parts-Pareto p q)
 pub parts_of-Prior : (t p q : Term) → t ≡ Prior p q → parts_of t ≡ parts_of p ++ parts_of q
 parts_of-Prior t p q is = rw is (parts-Prior p q)
 
-pub ruleset part_reads = (parts_of-Leaf, parts_of-Pareto, parts_of-Prior)
+pub parts_of-Dual : (t p : Term) → t ≡ Dual p → parts_of t ≡ t ∷ []
+parts_of-Dual t p is = rw is (parts-Dual p)
+
+pub ruleset part_reads = (parts_of-Leaf, parts_of-Pareto, parts_of-Prior, parts_of-Dual)

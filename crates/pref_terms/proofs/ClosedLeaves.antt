@@ -4,13 +4,13 @@ use Rattle.std.proofs.lemmas.Bool.{both_ways}
 use Rattle.prefsql_tables.specs.Sight.{Sight}
 use Rattle.order_laws.proofs.Members.{Among, among_back, among_either, among_front}
 use Rattle.pref_terms.specs.declared.term.Leaf.{Leaf}
-use Rattle.pref_terms.specs.declared.term.Term.{Term, Pareto, Prior}
+use Rattle.pref_terms.specs.declared.term.Term.{Term, Pareto, Prior, Dual}
 use Rattle.pref_terms.specs.declared.term.Term as term
 use Rattle.pref_terms.specs.Equations.{leaves_of-Leaf, leaves_of-Pareto, leaves_of-Prior, order_of-Leaf, order_of-Pareto, order_of-Prior}
 use Rattle.pref_terms.specs.Induction.{term_induction}
 use Rattle.pref_terms.specs.Parts.{closed_numbers}
 use Rattle.pref_terms.specs.Terms.{Order, leaf_order, leaves_of, order_of}
-use Rattle.pref_terms.proofs.PartReads.{closed-Leaf, closed-Pareto, closed-Prior}
+use Rattle.pref_terms.proofs.PartReads.{closed-Leaf, closed-Pareto, closed-Prior, closed-Dual}
 
 -- better or the same
 abbrev pub is_weakly : Order → Sight → Sight → Bool
@@ -93,5 +93,10 @@ module _ (y x : Sight) where
         weak = λ h. found.weak (prior_is p q h);
       }
 
+  -- no leaf under a dual term is closed
+  at_dual : (p : Term) → HasClosed p → HasClosed (Dual p)
+  at_dual p inner number closed =
+      absurd (subst (λ (ns : List ℕ). Among ns number) (closed-Dual (Dual p) p refl) closed)
+
   pub closed_leaf : (t : Term) → HasClosed t
-  closed_leaf = term_induction HasClosed at_leaf at_pareto at_prior
+  closed_leaf = term_induction HasClosed at_leaf at_pareto at_prior at_dual

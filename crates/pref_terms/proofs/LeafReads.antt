@@ -4,10 +4,10 @@ use Rattle.prefsql_tables.specs.Sight.{Sight}
 use Rattle.order_laws.proofs.Members.{Among, among_front, among_back}
 use Rattle.base_prefs.specs.Kind.{better_of, same_of}
 use Rattle.pref_terms.specs.declared.term.Leaf.{Leaf}
-use Rattle.pref_terms.specs.declared.term.Term.{Term, Pareto, Prior}
+use Rattle.pref_terms.specs.declared.term.Term.{Term, Pareto, Prior, Dual}
 use Rattle.pref_terms.specs.declared.term.Term as term
 use Rattle.pref_terms.specs.Terms.{Order, leaves_of, order_of}
-use Rattle.pref_terms.specs.Equations.{leaves_of-Leaf, leaves_of-Pareto, leaves_of-Prior, order_of-Leaf, order_of-Pareto, order_of-Prior}
+use Rattle.pref_terms.specs.Equations.{leaves_of-Leaf, leaves_of-Pareto, leaves_of-Prior, leaves_of-Dual, order_of-Leaf, order_of-Pareto, order_of-Prior, order_of-Dual}
 use Rattle.pref_terms.specs.Induction.{term_induction}
 
 -- both show the same in the columns of the leaves
@@ -72,6 +72,25 @@ module _ (y x v u : Sight) where
         same = ap (λ (o : Order). o.same y x) (order_of-Prior p q) ∙ (λ j. f.same j && g.same j) ∙ sym (ap (λ (o : Order). o.same v u) (order_of-Prior p q));
       }
 
-  -- where two pairs of combinations show the same in the columns of the leaves, a term ranks them alike
-  pub standing_same : (t : Term) → ReadsLeaves t
-  standing_same = term_induction ReadsLeaves leaf_alone pareto_alone prior_alone
+  dual_alone : (p : Term) → OneStanding p → (order_of p).better x y ≡ (order_of p).better u v → OneStanding (Dual p)
+  dual_alone p inner turned = record {
+    better = ap (λ (o : Order). o.better y x) (order_of-Dual p) ∙ turned ∙ sym (ap (λ (o : Order). o.better v u) (order_of-Dual p));
+    same = ap (λ (o : Order). o.same y x) (order_of-Dual p) ∙ inner.same ∙ sym (ap (λ (o : Order). o.same v u) (order_of-Dual p));
+  }
+
+abbrev AlwaysReadsLeaves : Term → Type 0
+AlwaysReadsLeaves t = (y x v u : Sight) → ReadsLeaves y x v u t
+
+always_reads : (t : Term) → AlwaysReadsLeaves t
+always_reads = term_induction AlwaysReadsLeaves
+    (λ leaf y x v u. leaf_alone y x v u leaf)
+    (λ p q first second y x v u. pareto_alone y x v u p q (first y x v u) (second y x v u))
+    (λ p q first second y x v u. prior_alone y x v u p q (first y x v u) (second y x v u))
+    (λ p inner y x v u ys xs.
+    let below_y = subst (LeavesAgree y v) (leaves_of-Dual p) ys in
+    let below_x = subst (LeavesAgree x u) (leaves_of-Dual p) xs in
+    dual_alone y x v u p (inner y x v u below_y below_x) ((inner x y u v below_x below_y).better))
+
+-- where two pairs of combinations show the same in the columns of the leaves, a term ranks them alike
+pub standing_same : (y x v u : Sight) (t : Term) → ReadsLeaves y x v u t
+standing_same y x v u t = always_reads t y x v u

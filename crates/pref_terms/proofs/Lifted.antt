@@ -10,13 +10,13 @@ use Rattle.order_laws.proofs.Members.{Among, among_back, among_front}
 use Rattle.base_prefs.specs.Kind.{key_of, same_of}
 use Rattle.base_prefs.specs.declared.kind.Kind.{Kind}
 use Rattle.pref_terms.specs.declared.term.Leaf.{Leaf}
-use Rattle.pref_terms.specs.declared.term.Term.{Term, Pareto, Prior}
+use Rattle.pref_terms.specs.declared.term.Term.{Term, Pareto, Prior, Dual}
 use Rattle.pref_terms.specs.declared.term.Term as term
-use Rattle.pref_terms.specs.Equations.{leaves_of-Leaf, leaves_of-Pareto, leaves_of-Prior, order_of-Leaf, order_of-Pareto, order_of-Prior}
+use Rattle.pref_terms.specs.Equations.{leaves_of-Leaf, leaves_of-Pareto, leaves_of-Prior, leaves_of-Dual, order_of-Leaf, order_of-Pareto, order_of-Prior, order_of-Dual}
 use Rattle.pref_terms.specs.Induction.{term_induction}
-use Rattle.pref_terms.specs.Parts.{is_on, pareto_left, prior_left, restricted}
+use Rattle.pref_terms.specs.Parts.{is_on, pareto_left, prior_left, dual_left, restricted}
 use Rattle.pref_terms.specs.Terms.{Order, leaves_of, order_of}
-use Rattle.pref_terms.proofs.PartReads.{left-Leaf, left-Pareto, left-Prior}
+use Rattle.pref_terms.proofs.PartReads.{left-Leaf, left-Pareto, left-Prior, left-Dual}
 
 same_itself : (kind : Kind) (trivial : Bool) (v : Value) → same_of kind trivial v v ≡ true
 same_itself kind true v = value_eq-equivalence.refl v
@@ -136,20 +136,52 @@ module _ (table : ℕ) (y x : Sight) where
       ∙ ap (λ v. same_of leaf.base leaf.trivial v (x leaf.place)) (same.at leaf there on)
       ∙ same_itself leaf.base leaf.trivial (x leaf.place)
 
-  pub lifted : (t : Term) → IsLifted t
-  lifted = term_induction IsLifted
-      (λ leaf same. subst (λ left. Lifts left (term.Leaf leaf)) (sym (left-Leaf table (term.Leaf leaf) leaf refl)) (leaf_if (is_on table leaf) leaf refl same))
-      (λ p q first second same.
+  pareto_lifted : (p q : Term) → IsLifted p → IsLifted q → IsLifted (Pareto p q)
+  pareto_lifted p q first second same =
       subst (λ left. Lifts left (Pareto p q)) (sym (left-Pareto table (Pareto p q) p q refl))
       (pareto_lifts p q (restricted table p) (restricted table q)
       (first (record { at = λ leaf there. same.at leaf (subst (λ (ls : List Leaf). Among ls leaf) (sym (leaves_of-Pareto p q)) (among_front (leaves_of p) (leaves_of q) leaf there)) }))
-      (second (record { at = λ leaf there. same.at leaf (subst (λ (ls : List Leaf). Among ls leaf) (sym (leaves_of-Pareto p q)) (among_back (leaves_of p) (leaves_of q) leaf there)) }))))
-      (λ p q first second same.
+      (second (record { at = λ leaf there. same.at leaf (subst (λ (ls : List Leaf). Among ls leaf) (sym (leaves_of-Pareto p q)) (among_back (leaves_of p) (leaves_of q) leaf there)) })))
+
+  prior_lifted : (p q : Term) → IsLifted p → IsLifted q → IsLifted (Prior p q)
+  prior_lifted p q first second same =
       subst (λ left. Lifts left (Prior p q)) (sym (left-Prior table (Prior p q) p q refl))
       (prior_lifts p q (restricted table p) (restricted table q)
       (first (record { at = λ leaf there. same.at leaf (subst (λ (ls : List Leaf). Among ls leaf) (sym (leaves_of-Prior p q)) (among_front (leaves_of p) (leaves_of q) leaf there)) }))
-      (second (record { at = λ leaf there. same.at leaf (subst (λ (ls : List Leaf). Among ls leaf) (sym (leaves_of-Prior p q)) (among_back (leaves_of p) (leaves_of q) leaf there)) }))))
+      (second (record { at = λ leaf there. same.at leaf (subst (λ (ls : List Leaf). Among ls leaf) (sym (leaves_of-Prior p q)) (among_back (leaves_of p) (leaves_of q) leaf there)) })))
+
+  leaf_lifted : (leaf : Leaf) → IsLifted (term.Leaf leaf)
+  leaf_lifted leaf same = subst (λ left. Lifts left (term.Leaf leaf)) (sym (left-Leaf table (term.Leaf leaf) leaf refl)) (leaf_if (is_on table leaf) leaf refl same)
+
+module _ (table : ℕ) where
+  -- turned round, what is left decides the other way round
+  dual_lifts : (y x : Sight) (p : Term) (left : Option Term) → Lifts table y x left p → Lifts table x y left p → Lifts table y x (dual_left left) (Dual p)
+  dual_lifts y x p None straight turned = ap (λ (o : Order). o.same y x) (order_of-Dual p) ∙ straight
+  dual_lifts y x p (Some left) straight turned = (
+    λ h. ap (λ (o : Order). o.better y x) (order_of-Dual p) ∙ turned.0 (sym (ap (λ (o : Order). o.better y x) (order_of-Dual left)) ∙ h),
+    λ h. ap (λ (o : Order). o.same y x) (order_of-Dual p) ∙ straight.1 (sym (ap (λ (o : Order). o.same y x) (order_of-Dual left)) ∙ h),
+  )
+
+  abbrev IsAlwaysLifted : Term → Type 0
+  IsAlwaysLifted t = (y x : Sight) → IsLifted table y x t
+
+  dual_lifted : (p : Term) → IsAlwaysLifted p → IsAlwaysLifted (Dual p)
+  dual_lifted p inner y x same =
+      let below : SameElsewhere table y x (leaves_of p) = subst (SameElsewhere table y x) (leaves_of-Dual p) same in
+      subst (λ left. Lifts table y x left (Dual p)) (sym (left-Dual table (Dual p) p refl))
+      (dual_lifts y x p (restricted table p) (inner y x below) (inner x y (record { at = λ leaf there off. sym (below.at leaf there off) })))
+
+  always_lifted : (t : Term) → IsAlwaysLifted t
+  always_lifted = term_induction IsAlwaysLifted
+      (λ leaf y x. leaf_lifted table y x leaf)
+      (λ p q first second y x. pareto_lifted table y x p q (first y x) (second y x))
+      (λ p q first second y x. prior_lifted table y x p q (first y x) (second y x))
+      dual_lifted
+
+module _ (table : ℕ) (y x : Sight) where
+  pub lifted : (t : Term) → IsLifted table y x t
+  lifted t = always_lifted table t y x
 
   -- better by what is left of the term on the table is better by the term
-  pub left_better : (t left : Term) → SameElsewhere (leaves_of t) → restricted table t ≡ Some left → (order_of left).better y x ≡ true → (order_of t).better y x ≡ true
-  left_better t left same is = (subst (λ o. Lifts o t) is (lifted t same)).0
+  pub left_better : (t left : Term) → SameElsewhere table y x (leaves_of t) → restricted table t ≡ Some left → (order_of left).better y x ≡ true → (order_of t).better y x ≡ true
+  left_better t left same is = (subst (λ o. Lifts table y x o t) is (lifted t same)).0

@@ -8,13 +8,13 @@ use Rattle.std.proofs.lemmas.Map.Views.{Contains-from_any, list_any-from_Contain
 use Rattle.std.specs.Cmp.{nat_eq_equiv}
 use Rattle.std.proofs.lemmas.Bool.{cases_Bool}
 use Rattle.pref_terms.specs.declared.term.Leaf.{Leaf}
-use Rattle.pref_terms.specs.declared.term.Term.{Term, Pareto, Prior}
+use Rattle.pref_terms.specs.declared.term.Term.{Term, Pareto, Prior, Dual}
 use Rattle.pref_terms.specs.declared.term.Term as term
-use Rattle.pref_terms.specs.Induction.{fold-Leaf, fold-Pareto, fold-Prior, term_induction}
-use Rattle.pref_terms.specs.Equations.{leaves_of-Leaf, leaves_of-Pareto, leaves_of-Prior}
+use Rattle.pref_terms.specs.Induction.{fold-Leaf, fold-Pareto, fold-Prior, fold-Dual, term_induction}
+use Rattle.pref_terms.specs.Equations.{leaves_of-Leaf, leaves_of-Pareto, leaves_of-Prior, leaves_of-Dual}
 use Rattle.pref_terms.specs.TermLaws.{some_leaf}
 use Rattle.pref_terms.specs.Terms.{leaves_of}
-use Rattle.pref_terms.specs.Parts.{is_on, pareto_left, prior_left, restrict_step, restricted, leaves_left, closed_step, closed_numbers}
+use Rattle.pref_terms.specs.Parts.{is_on, pareto_left, prior_left, dual_left, restrict_step, restricted, leaves_left, closed_step, closed_numbers}
 
 module _ (table : ℕ) where
   pub left-Leaf : (t : Term) (leaf : Leaf) → t ≡ term.Leaf leaf → restricted table t ≡ (if is_on table leaf then Some (term.Leaf leaf) else None)
@@ -26,7 +26,10 @@ module _ (table : ℕ) where
   pub left-Prior : (t p q : Term) → t ≡ Prior p q → restricted table t ≡ prior_left (restricted table p) (restricted table q)
   left-Prior t p q is = ap (restricted table) is ∙ fold-Prior (Option Term) (restrict_step table) p q
 
-pub ruleset lefts = (left-Leaf, left-Pareto, left-Prior)
+  pub left-Dual : (t p : Term) → t ≡ Dual p → restricted table t ≡ dual_left (restricted table p)
+  left-Dual t p is = ap (restricted table) is ∙ fold-Dual (Option Term) (restrict_step table) p
+
+pub ruleset lefts = (left-Leaf, left-Pareto, left-Prior, left-Dual)
 
 leaves-pareto_left : (p q : Option Term) → leaves_left (pareto_left p q) ≡ leaves_left p ++ leaves_left q
 leaves-pareto_left None q = refl
@@ -37,6 +40,10 @@ leaves-prior_left : (p q : Option Term) → leaves_left (prior_left p q) ≡ lea
 leaves-prior_left None q = refl
 leaves-prior_left (Some p) None = sym (append-nil (leaves_of p))
 leaves-prior_left (Some p) (Some q) = leaves_of-Prior p q
+
+leaves-dual_left : (p : Option Term) → leaves_left (dual_left p) ≡ leaves_left p
+leaves-dual_left None = refl
+leaves-dual_left (Some p) = leaves_of-Dual p
 
 leaves-if : (b : Bool) (leaf : Leaf) → leaves_left (if b then Some (term.Leaf leaf) else None) ≡ cond b (leaf ∷ []) []
 leaves-if true leaf = leaves_of-Leaf leaf
@@ -58,6 +65,9 @@ module _ (table : ℕ) where
       ap leaves_left (left-Prior table (Prior p q) p q refl) ∙ leaves-prior_left (restricted table p) (restricted table q)
       ∙ rw (first, second) (sym (filter-append (is_on table) (leaves_of p) (leaves_of q)))
       ∙ sym (ap (filter (is_on table)) (leaves_of-Prior p q)))
+      (λ p inner.
+      ap leaves_left (left-Dual table (Dual p) p refl) ∙ leaves-dual_left (restricted table p) ∙ inner
+      ∙ sym (ap (filter (is_on table)) (leaves_of-Dual p)))
 
   abbrev IsElsewhere : Leaf → Type 0
   IsElsewhere leaf = leaf.place.table ≢ table
@@ -109,6 +119,9 @@ closed-Pareto t p q is = ap closed_numbers is ∙ fold-Pareto (List ℕ) closed_
 pub closed-Prior : (t p q : Term) → t ≡ Prior p q → closed_numbers t ≡ closed_numbers p
 closed-Prior t p q is = ap closed_numbers is ∙ fold-Prior (List ℕ) closed_step p q
 
+pub closed-Dual : (t p : Term) → t ≡ Dual p → closed_numbers t ≡ []
+closed-Dual t p is = ap closed_numbers is ∙ fold-Dual (List ℕ) closed_step p
+
 pub any_closed-Leaf : (t : Term) (leaf : Leaf) (n : ℕ) → t ≡ term.Leaf leaf → list_any (nat_eq n) (closed_numbers t) ≡ nat_eq n leaf.number
 any_closed-Leaf t leaf n is = rw (closed-Leaf t leaf is) (or_false (nat_eq n leaf.number))
   where
@@ -122,7 +135,10 @@ any_closed-Pareto t p q n is = rw (closed-Pareto t p q is) (list_any-append (nat
 pub any_closed-Prior : (t p q : Term) (n : ℕ) → t ≡ Prior p q → list_any (nat_eq n) (closed_numbers t) ≡ list_any (nat_eq n) (closed_numbers p)
 any_closed-Prior t p q n is = rw (closed-Prior t p q is) refl
 
-pub ruleset closed_reads = (any_closed-Leaf, any_closed-Pareto, any_closed-Prior)
+pub any_closed-Dual : (t p : Term) (n : ℕ) → t ≡ Dual p → list_any (nat_eq n) (closed_numbers t) ≡ false
+any_closed-Dual t p n is = rw (closed-Dual t p is) refl
+
+pub ruleset closed_reads = (any_closed-Leaf, any_closed-Pareto, any_closed-Prior, any_closed-Dual)
 
 -- the test finds a number exactly where it is one of the closed leaves
 pub closed_found : (t : Term) (n : ℕ) (r : Bool) → r ≡ list_any (nat_eq n) (closed_numbers t) → IsTrue r ↔ Contains (closed_numbers t) n

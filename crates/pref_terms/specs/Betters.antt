@@ -1,6 +1,6 @@
 -- What makes a combination better by a term, or the same: said by recursion on the term, with the
--- relation of each base preference at the leaves (Pareto and prioritised preferences: Kießling,
--- VLDB 2002).
+-- relation of each base preference at the leaves (Pareto, prioritised and dual preferences:
+-- Kießling, VLDB 2002).
 use Rattle.std.specs.Prelude.{◌⊎◌}
 use Rattle.std.proofs.Common.{Decides}
 use Rattle.prefsql_tables.specs.Sight.{Sight}
@@ -39,10 +39,15 @@ prior_relation p q = record {
   same = λ y x. p.same y x × q.same y x;
 }
 
+-- the relation turned round: what was better is worse
+abbrev pub dual_relation : Relation → Relation
+dual_relation p = record { better = λ y x. p.better x y; same = p.same }
+
 abbrev pub relation_step : (X : Type 0) → (X → Term) → (X → Relation) → Term-F X → Relation
 relation_step X whole relation (Term-F.Leaf leaf) = leaf_relation leaf
 relation_step X whole relation (Term-F.Pareto p q) = pareto_relation (relation p) (relation q)
 relation_step X whole relation (Term-F.Prior p q) = prior_relation (relation p) (relation q)
+relation_step X whole relation (Term-F.Dual p) = dual_relation (relation p)
 
 abbrev pub relation_of : Term → Relation
 relation_of = rec-Term Relation relation_step

@@ -1,7 +1,7 @@
 -- The parts of a prioritised term, which come one before the other (prioritised preference:
--- Kießling, VLDB 2002). That they are taken apart is this project's own.
+-- Kießling, VLDB 2002). That they are taken apart is this project's own. A dual term is one part.
 use Rattle.std.specs.Prelude.{List, [], ◌∷◌, ◌++◌}
-use Rattle.pref_terms.specs.declared.term.Term.{Term, Pareto, Prior, fold-Term}
+use Rattle.pref_terms.specs.declared.term.Term.{Term, Pareto, Prior, Dual, fold-Term}
 use Rattle.pref_terms.specs.declared.term.Term as term
 use Rattle.pref_terms.specs.declared.term.Term.TheOpen.{Term-F}
 
@@ -16,6 +16,7 @@ open_step (Term-F.Pareto p q) =
     let whole = Pareto p.whole q.whole in record { whole = whole; parts = whole ∷ [] }
 open_step (Term-F.Prior p q) =
     record { whole = Prior p.whole q.whole; parts = p.parts ++ q.parts }
+open_step (Term-F.Dual p) = let whole = Dual p.whole in record { whole = whole; parts = whole ∷ [] }
 
 abbrev pub opened : Term → Opened
 opened = fold-Term Opened open_step

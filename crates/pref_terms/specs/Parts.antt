@@ -3,7 +3,7 @@
 use Rattle.std.specs.Prelude.{ℕ, Bool, nat_eq, Option, Some, None, List, [], ◌∷◌, ◌++◌}
 use Rattle.std.specs.Prelude.{if◌then◌else◌}
 use Rattle.pref_terms.specs.declared.term.Leaf.{Leaf}
-use Rattle.pref_terms.specs.declared.term.Term.{Term, Pareto, Prior, fold-Term}
+use Rattle.pref_terms.specs.declared.term.Term.{Term, Pareto, Prior, Dual, fold-Term}
 use Rattle.pref_terms.specs.declared.term.Term as term
 use Rattle.pref_terms.specs.declared.term.Term.TheOpen.{Term-F}
 use Rattle.pref_terms.specs.Terms.{leaves_of}
@@ -23,13 +23,19 @@ prior_left None q = q
 prior_left (Some p) None = Some p
 prior_left (Some p) (Some q) = Some (Prior p q)
 
+-- what is left turned round, or nothing
+abbrev pub dual_left : Option Term → Option Term
+dual_left None = None
+dual_left (Some p) = Some (Dual p)
+
 abbrev pub restrict_step : ℕ → Term-F (Option Term) → Option Term
 restrict_step table (Term-F.Leaf leaf) = if is_on table leaf then Some (term.Leaf leaf) else None
 restrict_step table (Term-F.Pareto p q) = pareto_left p q
 restrict_step table (Term-F.Prior p q) = prior_left p q
+restrict_step table (Term-F.Dual p) = dual_left p
 
 -- the term without the leaves of other tables: a constructor that loses one part becomes the other
--- part
+-- part, and a dual term that loses its part is lost
 abbrev pub restricted : ℕ → Term → Option Term
 restricted table = fold-Term (Option Term) (restrict_step table)
 
@@ -42,6 +48,7 @@ abbrev pub closed_step : Term-F (List ℕ) → List ℕ
 closed_step (Term-F.Leaf leaf) = leaf.number ∷ []
 closed_step (Term-F.Pareto p q) = p ++ q
 closed_step (Term-F.Prior p q) = p
+closed_step (Term-F.Dual p) = []
 
 -- the numbers of the leaves that are reached through Pareto nodes and first parts of prioritised
 -- nodes alone

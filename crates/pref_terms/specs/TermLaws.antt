@@ -7,17 +7,17 @@ use Rattle.std.proofs.lemmas.Cmp.{on_total, lists_total, int_cmp_total}
 use Rattle.std.proofs.lemmas.List.Elements.{All-nil, All-cons, All-head, All-tail}
 use Rattle.prefsql_tables.specs.Sight.{Sight}
 use Rattle.order_laws.specs.Lawful.{IsLawful}
-use Rattle.order_laws.specs.CombineLaws.{lawful_on, pareto_lawful, prior_lawful}
+use Rattle.order_laws.specs.CombineLaws.{flip_lawful, lawful_on, pareto_lawful, prior_lawful}
 use Rattle.base_prefs.specs.RankedLaws.{lawful_of}
 use Rattle.pref_terms.specs.declared.term.Leaf.{Leaf}
-use Rattle.pref_terms.specs.declared.term.Term.{Term, Pareto, Prior}
+use Rattle.pref_terms.specs.declared.term.Term.{Term, Pareto, Prior, Dual}
 use Rattle.pref_terms.specs.declared.term.Term as term
 use Rattle.pref_terms.specs.Terms.{Order, order_of, leaves_of, keys_of, key_order}
 use Rattle.pref_terms.specs.Fits.{IsTrivialIfExplicit}
 use Rattle.pref_terms.specs.Induction.{term_induction}
-use Rattle.pref_terms.specs.Equations.{order_of-Leaf, order_of-Pareto, order_of-Prior}
-use Rattle.pref_terms.specs.Equations.{leaves_of-Leaf, leaves_of-Pareto, leaves_of-Prior}
-use Rattle.pref_terms.specs.Equations.{key_order-Leaf, key_order-Pareto, key_order-Prior}
+use Rattle.pref_terms.specs.Equations.{order_of-Leaf, order_of-Pareto, order_of-Prior, order_of-Dual}
+use Rattle.pref_terms.specs.Equations.{leaves_of-Leaf, leaves_of-Pareto, leaves_of-Prior, leaves_of-Dual}
+use Rattle.pref_terms.specs.Equations.{key_order-Leaf, key_order-Pareto, key_order-Prior, key_order-Dual}
 
 -- the laws hold with keys that compare alike
 rekeyed : {X : Type 0} {better same : X → X → Bool} {k l : X → X → Ordering}
@@ -80,9 +80,17 @@ prior_term_lawful p q first second all =
     (sym (order_of-Prior p q))
     (rekeyed laws (keys_total (Prior p q)) (key_order-Prior p q))
 
+dual_term_lawful : (p : Term) → IsTermLawful p → IsTermLawful (Dual p)
+dual_term_lawful p inner all =
+    let laws = flip_lawful (inner (subst (All IsTrivialIfExplicit) (leaves_of-Dual p) all)) in
+    subst (λ (order : Order). IsLawful order.better order.same (key_order (Dual p)))
+    (sym (order_of-Dual p))
+    (rekeyed laws (keys_total (Dual p)) (key_order-Dual p))
+
 pub term_lawful : (t : Term) → All IsTrivialIfExplicit (leaves_of t)
     → IsLawful ((order_of t).better) ((order_of t).same) (key_order t)
-term_lawful = term_induction IsTermLawful leaf_lawful pareto_term_lawful prior_term_lawful
+term_lawful =
+    term_induction IsTermLawful leaf_lawful pareto_term_lawful prior_term_lawful dual_term_lawful
 
 -- a term has a leaf
 pub some_leaf : (t : Term) → 0 < length (leaves_of t)
@@ -92,3 +100,4 @@ some_leaf = term_induction (λ t. 0 < length (leaves_of t))
     rw (leaves_of-Pareto p q) (omega (arith, first, length-append (leaves_of p) (leaves_of q))))
     (λ p q first second.
     rw (leaves_of-Prior p q) (omega (arith, first, length-append (leaves_of p) (leaves_of q))))
+    (λ p inner. rw (leaves_of-Dual p) inner)

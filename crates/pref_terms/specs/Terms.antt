@@ -1,9 +1,8 @@
--- Which of two combinations of rows is better by a term (Pareto and prioritised preferences, and
--- preferences within groups:
--- Kießling, VLDB 2002).
-use Rattle.std.specs.Prelude.{ℕ, ℤ, Bool, List, [], ◌∷◌, ◌++◌, map}
+-- Which of two combinations of rows is better by a term (Pareto, prioritised and dual preferences,
+-- and preferences within groups: Kießling, VLDB 2002).
+use Rattle.std.specs.Prelude.{ℕ, ℤ, neg_ℤ, Bool, List, [], ◌∷◌, ◌++◌, map}
 use Rattle.std.specs.List.{list_all}
-use Rattle.std.specs.Ordering.{on, int_cmp, eq_of_both}
+use Rattle.std.specs.Ordering.{on, int_cmp, eq_of_both, flip_args}
 use Rattle.std.specs.Cmp.Lexicographic.{slice_cmp}
 use Rattle.std.specs.declared.cmp.Ordering.{Ordering}
 use Rattle.prefsql_values.specs.Value.{value_eq}
@@ -32,7 +31,8 @@ leaf_order leaf = record {
 -- one level of a term, with the order of each part in its place: by a Pareto term a combination is
 -- better where it is better by one part, and better or the same by the other; by a prioritised one
 -- where it is better by the first, or the same by it and better by the second; by both two are the
--- same where they are the same by both parts
+-- same where they are the same by both parts; by a dual one it is better where the other is better
+-- by the part, and the same where it is so by the part
 abbrev pub order_step : Term-F Order → Order
 order_step (Term-F.Leaf leaf) = leaf_order leaf
 order_step (Term-F.Pareto p q) = record {
@@ -43,6 +43,7 @@ order_step (Term-F.Prior p q) = record {
   better = prior_better p.better p.same q.better;
   same = eq_of_both p.same q.same;
 }
+order_step (Term-F.Dual p) = record { better = flip_args p.better; same = p.same }
 
 -- the order of a term
 abbrev pub order_of : Term → Order
@@ -52,14 +53,22 @@ abbrev pub leaves_step : Term-F (List Leaf) → List Leaf
 leaves_step (Term-F.Leaf leaf) = leaf ∷ []
 leaves_step (Term-F.Pareto p q) = p ++ q
 leaves_step (Term-F.Prior p q) = p ++ q
+leaves_step (Term-F.Dual p) = p
 
 -- the leaves of a term, as they are written
 abbrev pub leaves_of : Term → List Leaf
 leaves_of = fold-Term (List Leaf) leaves_step
 
--- the keys of the leaves, in their order
+abbrev pub keys_step : Sight → Term-F (List ℤ) → List ℤ
+keys_step x (Term-F.Leaf leaf) = key_of leaf.base (x leaf.place) ∷ []
+keys_step x (Term-F.Pareto p q) = p ++ q
+keys_step x (Term-F.Prior p q) = p ++ q
+keys_step x (Term-F.Dual p) = map neg_ℤ p
+
+-- the keys of the leaves, in their order; each dual term changes the sign of those below it, so a
+-- leaf under an odd number of them has its key's order reversed
 abbrev pub keys_of : Term → Sight → List ℤ
-keys_of term x = map (λ (leaf : Leaf). key_of leaf.base (x leaf.place)) (leaves_of term)
+keys_of term x = fold-Term (List ℤ) (keys_step x) term
 
 -- how the keys compare: the first two that differ decide
 abbrev pub key_order : Term → Sight → Sight → Ordering

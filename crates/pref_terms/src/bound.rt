@@ -111,6 +111,7 @@ impl BoundTerm<'_> {
                 Standing::Same => self.standing(second.get(), a, b, steps),
                 Standing::Other => Standing::Other,
             },
+            Term::Dual(inner) => self.standing(inner.get(), b, a, steps),
         }
     }
 
@@ -171,6 +172,7 @@ impl BoundTerm<'_> {
                 && self.is_same_by(second.get(), a, b),
             Term::Prior(first, second) => self.is_same_by(first.get(), a, b)
                 && self.is_same_by(second.get(), a, b),
+            Term::Dual(inner) => self.is_same_by(inner.get(), a, b),
         }
     }
 
@@ -217,6 +219,7 @@ impl BoundTerm<'_> {
                     order => order,
                 }
             }
+            Term::Dual(inner) => self.term_keys(inner.get(), b, a),
         }
     }
 }

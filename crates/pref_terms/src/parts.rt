@@ -2,14 +2,15 @@
 ghost use Rattle.std.specs.Prelude.{◌≡◌, ◌≢◌, ◌↔◌, IfOk, IsTrue, IsNone, All, Contains, nat_eq, filter};
 ghost use Rattle.std.specs.List.{list_any};
 ghost use Rattle.pref_terms.specs.Terms.{leaves_of};
-ghost use Rattle.pref_terms.specs.Parts.{restricted, is_on, leaves_left, pareto_left, prior_left, closed_numbers};
+ghost use Rattle.pref_terms.specs.Parts.{restricted, is_on, leaves_left, pareto_left, prior_left, dual_left, closed_numbers};
 
 use crate::term::Term;
 use prefsql_values::{Boxed, Memory};
 use std::alloc::Global;
 
 /// The term without the leaves of other tables than the FROM table at this position. Where a
-/// constructor loses one part, the other part takes its place. None where no leaf is left.
+/// constructor loses one part, the other part takes its place; a dual term that loses its part is
+/// lost. None where no leaf is left.
 pub fn restrict(alloc: Global, term: &Term, table: u32) -> Result<Option<Term>, Memory>
     ensures exact { IfOk result (λ left. left ≡ restricted table term.now) }
     ensures leaves { IfOk result
@@ -44,6 +45,7 @@ fn restrict_part(alloc: Global, term: &Term, table: u32) -> Result<Option<Term>,
             let second = restrict_part(alloc, second.get(), table)?;
             join_prior(alloc, first, second)
         }
+        Term::Dual(inner) => turn_left(alloc, restrict_part(alloc, inner.get(), table)?),
     }
 }
 
@@ -87,6 +89,16 @@ fn join_prior(
     }
 }
 
+/// What is left turned round, or nothing where nothing is left.
+fn turn_left(alloc: Global, left: Option<Term>) -> Result<Option<Term>, Memory>
+    ensures { IfOk result (λ turned. turned ≡ dual_left left) }
+{
+    match left {
+        None => Ok(None),
+        Some(inner) => Ok(Some(Term::Dual(Boxed::new(alloc, inner)?))),
+    }
+}
+
 /// Whether a leaf with this number is reached through Pareto nodes and first parts of Prior nodes
 /// alone.
 #[tactic(auto, using(crate::proofs::PartReads::closed_found))]
@@ -108,5 +120,6 @@ fn has_closed(term: &Term, number: u32) -> bool
             has_closed(first.get(), number) || has_closed(second.get(), number)
         }
         Term::Prior(first, _) => has_closed(first.get(), number),
+        Term::Dual(_) => false,
     }
 }

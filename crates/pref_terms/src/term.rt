@@ -21,8 +21,7 @@ pub struct Leaf {
 }
 
 /// A preference of combinations of rows: base preferences joined by Pareto and prioritised
-/// preference (Kießling, VLDB
-/// 2002).
+/// preference, or turned round (Kießling, VLDB 2002).
 #[derive(Debug, Drop)]
 pub enum Term {
     /// By one column alone.
@@ -31,6 +30,8 @@ pub enum Term {
     Pareto(Boxed<Term>, Boxed<Term>),
     /// The first part counts more.
     Prior(Boxed<Term>, Boxed<Term>),
+    /// The part turned round: what is better by it is worse.
+    Dual(Boxed<Term>),
 }
 
 impl Leaf {
@@ -69,6 +70,7 @@ impl Term {
                 first.get().keeps_limits();
                 second.get().keeps_limits()
             }
+            Term::Dual(inner) => inner.get().keeps_limits(),
         }
     }
 
@@ -95,6 +97,7 @@ impl Term {
                 Boxed::new(alloc, first.get().copy(alloc)?)?,
                 Boxed::new(alloc, second.get().copy(alloc)?)?,
             ),
+            Term::Dual(inner) => Term::Dual(Boxed::new(alloc, inner.get().copy(alloc)?)?),
         })
     }
 }

@@ -1,6 +1,7 @@
 //! Preferences, each read from a cursor.
 
 ghost use Rattle.std.specs.Prelude.{◌≡◌, IfOk, Ok};
+ghost use Rattle.grammar_forms.specs.Form.{rule};
 ghost use Rattle.grammar_forms.specs.Reading.{with_value};
 ghost use Rattle.query_grammar.specs.Rules.{preference_rule};
 ghost use Rattle.token_forms.specs.Forms as forms;
@@ -11,7 +12,7 @@ ghost use Rattle.query_grammar.specs.Outcome.{nested, outcome};
 ghost use Rattle.token_forms.specs.Reads.{Reads};
 
 use prefsql_lexer::{Keyword, Symbol};
-use prefsql_values::{List, Memory};
+use prefsql_values::{Boxed, List, Memory};
 use query_tree::{BaseForm, BaseTree, EdgeTree, LiteralTree, NameTree, PrefTree, SetTree};
 use std::alloc::Global;
 use token_forms::{Cursor, Stop, both, pushed};
@@ -362,15 +363,28 @@ impl PreferenceReader {
         inner.preference(tokens)
     }
 
+    #[cycle(preference)]
+    fn preference_in_parens(self, tokens: &mut Cursor<'_>) -> Result<PrefTree, Stop>
+        ensures { Reads (outcome self.depth (forms.in_parens (rule preference_rule)) tokens.old)
+            result tokens.new }
+    {
+        tokens.symbol(Symbol::LeftParen)?;
+        let inner = self.nested_preference(tokens)?;
+        let (inner, _) = both(inner, tokens.symbol(Symbol::RightParen))?;
+        Ok(inner)
+    }
+
     #[tactic(auto, unfolding(query_grammar::specs::ReadPreferences::primary))]
     #[cycle(preference)]
     fn primary(self, tokens: &mut Cursor<'_>) -> Result<PrefTree, Stop>
         ensures { Reads (outcome self.depth preferences.primary tokens.old) result tokens.new }
     {
-        if tokens.eat_symbol(Symbol::LeftParen) {
-            let inner = self.nested_preference(tokens)?;
-            let (inner, _) = both(inner, tokens.symbol(Symbol::RightParen))?;
-            return Ok(inner);
+        if tokens.at_symbol(Symbol::LeftParen) {
+            return self.preference_in_parens(tokens);
+        }
+        if tokens.eat_word(Keyword::Dual) {
+            let inner = self.preference_in_parens(tokens)?;
+            return Ok(PrefTree::Dual(Boxed::new(self.alloc, inner)?));
         }
         Ok(PrefTree::Base(self.base(tokens)?))
     }

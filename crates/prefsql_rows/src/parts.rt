@@ -34,6 +34,7 @@ fn add_numbers(term: &Term, numbers: &mut Vec<u32>) -> Result<(), Memory> {
             add_numbers(first.get(), numbers)?;
             add_numbers(second.get(), numbers)?;
         }
+        Term::Dual(inner) => add_numbers(inner.get(), numbers)?,
     }
     Ok(())
 }

@@ -347,7 +347,10 @@ module _ (R : (A : Type 0) → Rule A → Wholes Token A) (S : (A : Type 0) → 
   unfolding prim primary
   Same-prim =
       let p = in_parens (rule preference_rule) in
-      sides p p (map pref_tree.Base base) (map pref_tree.Base any_base) (same p) (under pref_tree.Base base any_base Same-base)
+      let d = map pref_tree.Dual (word_only word.Dual ⨟> p) in
+      let b = map pref_tree.Base base in
+      let r = map pref_tree.Base any_base in
+      sides p p (either d b) (either d r) (same p) (sides d d b r (same d) (under pref_tree.Base base any_base Same-base))
 
   Same-par : Same par pareto
   unfolding par pareto primaries

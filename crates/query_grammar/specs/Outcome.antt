@@ -20,8 +20,8 @@ abbrev pub rule_starts : (A : Type 0) → Rule A → List ℕ
 rule_starts A (condition_rule false) = plain_starts
 rule_starts A (condition_rule true) = word_class word.Top ∷ word_class word.Level
     ∷ word_class word.Distance ∷ plain_starts
-rule_starts A preference_rule = symbol_class symbol.LeftParen ∷ word_class word.Lowest
-    ∷ word_class word.Highest ∷ name_class ∷ []
+rule_starts A preference_rule = symbol_class symbol.LeftParen ∷ word_class word.Dual
+    ∷ word_class word.Lowest ∷ word_class word.Highest ∷ name_class ∷ []
 
 abbrev pub rule_continues : (A : Type 0) → Rule A → List ℕ
 rule_continues A (condition_rule q) = word_class word.Or ∷ word_class word.And

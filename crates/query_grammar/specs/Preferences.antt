@@ -108,9 +108,12 @@ marked p = p.0 p.1
 unfoldable pub base : Grammar BaseTree
 base = graph <⨟ option (word_only word.Trivial) ∣ marked <$> other ⨟ mark
 
--- prim := "(" pref ")" | base
+-- prim := "(" pref ")" | DUAL "(" pref ")" | base
 unfoldable pub prim : Grammar PrefTree
-prim = in_parens (rule preference_rule) ∣ pref_tree.Base <$> base
+prim =
+    in_parens (rule preference_rule)
+    ∣ pref_tree.Dual <$> word_only word.Dual ⨟> in_parens (rule preference_rule)
+    ∣ pref_tree.Base <$> base
 
 -- par := prim { AND prim }
 unfoldable pub par : Grammar PrefTree

@@ -126,9 +126,12 @@ highest = extremum_tree base_form.Highest <$> (word_at word.Highest ⨟ in_paren
 unfoldable pub any_base : Grammar BaseTree
 any_base = lowest ∣ highest ∣ column_base
 
--- "(" pref ")" | base
+-- "(" pref ")" | DUAL "(" pref ")" | base
 unfoldable pub primary : Grammar PrefTree
-primary = in_parens (rule preference_rule) ∣ pref_tree.Base <$> any_base
+primary =
+    in_parens (rule preference_rule)
+    ∣ pref_tree.Dual <$> word_only word.Dual ⨟> in_parens (rule preference_rule)
+    ∣ pref_tree.Base <$> any_base
 
 unfoldable pub primaries : Grammar (List PrefTree)
 primaries = separated (word_only word.And) primary

@@ -19,7 +19,7 @@ use Rattle.query_tree.specs.declared.preference.PrefTree.{PrefTree}
 use Rattle.query_tree.specs.declared.preference.PrefTree.TheVariants as pref_tree
 use Rattle.query_tree.proofs.Rising.{Rises, Rises-wider, Rises-append}
 use Rattle.query_tree.proofs.CondLemmas.{IsCond-And, IsCond-Or, IsCond-Not, cond_places-And, cond_places-Or, cond_places-Not, cond_places-Compare, cond_places-Between, cond_places-OneOf, cond_places-IsNull, cond_places-Top, nesting_in-And, nesting_in-Or, nesting_in-Not, nesting_in-Compare, nesting_in-Between, nesting_in-OneOf, nesting_in-IsNull, nesting_in-Top}
-use Rattle.query_tree.proofs.PrefLemmas.{IsPref-Pareto, IsPref-Prior, pref_places-Base, pref_places-Pareto, pref_places-Prior}
+use Rattle.query_tree.proofs.PrefLemmas.{IsPref-Pareto, IsPref-Prior, IsPref-Dual, pref_places-Base, pref_places-Pareto, pref_places-Prior, pref_places-Dual}
 use Rattle.prefsql_values.specs.Nesting.{Standing, alone, in_and, in_or, after_not, wraps_and, wraps_or, wraps_not, in_parentheses, deepest}
 use Rattle.query_tree.specs.Nesting.{nesting_in}
 use Rattle.query_tree.specs.Places.{scalar_places, cond_places, pref_places}
@@ -388,7 +388,15 @@ module _ (last : ℕ) (small : last < 2 ^ 32) where
   prim_part : (d lo hi : ℕ) (v : PrefTree) → Is prim d lo hi v → Part IsPref pref_places lo hi v
   unfolding prim
   prim_part d lo hi v (inl w) = enclosed_part last Good IsPref pref_places d 0 (rule preference_rule) (λ a b c i. i) lo hi v w
-  prim_part d lo hi v (inr w) =
+  prim_part d lo hi v (inr (inl w)) =
+      let s = skip last Good 29 d 0 (in_parens (rule preference_rule)) lo hi w.0 w.1 in
+      let p = enclosed_part last Good IsPref pref_places d _ (rule preference_rule) (λ a b c i. i) s.0 hi w.0 s.2 in
+      moved IsPref pref_places lo hi v (pref_tree.Dual w.0) w.2 (record {
+        good = IsPref-Dual w.0 p.good;
+        rising = subst (λ z. Rises lo hi z) (sym (pref_places-Dual w.0)) (Rises-wider s.0 hi lo hi (pref_places w.0) (let k = s.1 in omega arith) (omega arith) p.rising);
+        filled = (let k = s.1 in let j = p.filled in omega arith);
+      })
+  prim_part d lo hi v (inr (inr w)) =
       let p = base_part last Good small d 0 lo hi w.0 w.1 in
       moved IsPref pref_places lo hi v (pref_tree.Base w.0) w.2 (record { good = p.good; rising = subst (λ z. Rises lo hi z) (sym (pref_places-Base w.0)) p.rising; filled = p.filled })
 

@@ -63,6 +63,7 @@ abbrev pub pref_places_step : PrefTree-F (List ℕ) → List ℕ
 pref_places_step (PrefTree-F.Base base) = base_places base
 pref_places_step (PrefTree-F.Pareto parts) = concat parts
 pref_places_step (PrefTree-F.Prior parts) = concat parts
+pref_places_step (PrefTree-F.Dual part) = part
 
 unfoldable pub pref_places : PrefTree → List ℕ
 pref_places = fold-PrefTree (List ℕ) pref_places_step

@@ -17,7 +17,7 @@ use Rattle.query_tree.specs.declared.preference.EdgeTree.{EdgeTree}
 use Rattle.query_tree.specs.declared.preference.BaseForm.{BaseForm}
 use Rattle.query_tree.specs.declared.preference.BaseForm.TheVariants as form
 use Rattle.query_tree.specs.declared.preference.BaseTree.{BaseTree}
-use Rattle.query_tree.specs.declared.preference.PrefTree.{PrefTree, Base, Pareto', Prior'}
+use Rattle.query_tree.specs.declared.preference.PrefTree.{PrefTree, Base, Pareto', Prior', Dual'}
 use Rattle.query_tree.specs.declared.preference.PrefTree.{Row_of-PrefTree, end_of-PrefTree}
 use Rattle.query_tree.specs.declared.preference.PrefTree.{more_of-PrefTree}
 use Rattle.query_tree.specs.declared.query.ItemTree.{ItemTree}
@@ -134,6 +134,7 @@ abbrev mutual
   IsPref (Base base) = IsBase base
   IsPref (Pareto' _ parts) = IsChain (pref_count parts) × ArePrefs parts
   IsPref (Prior' _ parts) = IsChain (pref_count parts) × ArePrefs parts
+  IsPref (Dual' _ part) = ArePrefs part
 
   -- the same of each part
   pub ArePrefs : {n : _} → Row_of-PrefTree n → Type 0

@@ -1,7 +1,7 @@
 //! Preferences.
 
 use crate::name::{LiteralTree, NameTree};
-use prefsql_values::List;
+use prefsql_values::{Boxed, List};
 
 /// The literals of a set, in the order in which they are written.
 #[derive(Debug, Drop)]
@@ -52,4 +52,6 @@ pub enum PrefTree {
     Pareto(List<PrefTree>),
     /// Two or more parts, the most important one first, which CASCADE joins.
     Prior(List<PrefTree>),
+    /// The part turned round, which DUAL makes.
+    Dual(Boxed<PrefTree>),
 }

@@ -3,21 +3,21 @@ use Rattle.std.proofs.Common.{◌≡◌, ℕ, Option, Some, None, List, [], ◌�
 use Rattle.std.specs.Prelude.{◌⊎◌}
 use Rattle.std.specs.List.{concat, flat_map}
 use Rattle.std.proofs.lemmas.List.Elements.{All-nil, All-cons, All-append, All-head, All-tail}
-use Rattle.query_tree.proofs.PrefLemmas.{pref_places-Base, pref_places-Pareto, pref_places-Prior}
+use Rattle.query_tree.proofs.PrefLemmas.{pref_places-Base, pref_places-Pareto, pref_places-Prior, pref_places-Dual}
 use Rattle.query_tree.specs.Places.{base_places, cond_places, form_places, places_if, pref_places, query_places, select_places, set_places}
 use Rattle.query_tree.specs.WellMade.{IsQuery}
 use Rattle.query_tree.specs.declared.name.NameTree.{NameTree}
 use Rattle.query_tree.specs.declared.preference.BaseForm.{BaseForm}
 use Rattle.query_tree.specs.declared.preference.BaseForm.TheVariants as forms
 use Rattle.query_tree.specs.declared.preference.BaseTree.{BaseTree}
-use Rattle.query_tree.specs.declared.preference.PrefTree.{PrefTree, Pareto, Prior}
+use Rattle.query_tree.specs.declared.preference.PrefTree.{PrefTree, Pareto, Prior, Dual}
 use Rattle.query_tree.specs.declared.preference.PrefTree as pref
 use Rattle.query_tree.specs.declared.preference.SetTree.{SetTree}
 use Rattle.query_tree.specs.declared.query.OrderTree.{OrderTree}
 use Rattle.query_tree.specs.declared.query.QueryTree.{QueryTree}
 use Rattle.query_typing.specs.InOrder.{AreInOrder, Ascends, IsInOrder, from_places, literal_places}
 use Rattle.query_typing.specs.Leaves.{bases_if, bases_of}
-use Rattle.query_typing.proofs.BasesReads.{bases-Base, bases-Pareto, bases-Prior}
+use Rattle.query_typing.proofs.BasesReads.{bases-Base, bases-Pareto, bases-Prior, bases-Dual}
 use Rattle.query_typing.proofs.Stops.{ascends_left, ascends_lower, ascends_right, sorted_ascends}
 use Rattle.query_typing.proofs.TreeInduction.{pref_induction}
 
@@ -39,6 +39,7 @@ bases_in_order =
     (All-cons IsInOrder base [] (ascends_lower low 0 (base_places base) (omega arith) (subst (Ascends low) (pref_places-Base base) up)) (All-nil IsInOrder)))
     (λ parts each low up. subst (All IsInOrder) (sym (bases-Pareto (Pareto parts) parts refl)) (parts_in_order parts each low (subst (Ascends low) (pref_places-Pareto parts) up)))
     (λ parts each low up. subst (All IsInOrder) (sym (bases-Prior (Prior parts) parts refl)) (parts_in_order parts each low (subst (Ascends low) (pref_places-Prior parts) up)))
+    (λ part each low up. subst (All IsInOrder) (sym (bases-Dual (Dual part) part refl)) (each low (subst (Ascends low) (pref_places-Dual part) up)))
 
 written_in_order : (prefer : Option PrefTree) → Ascends 0 (places_if pref_places prefer) → All IsInOrder (bases_if prefer)
 written_in_order None up = All-nil IsInOrder

@@ -3,20 +3,20 @@ use Rattle.std.proofs.Common.{◌≡◌, ℕ, ◌+◌, ◌≤◌, List, [], ◌�
 use Rattle.std.specs.List.{flat_map}
 use Rattle.std.proofs.lemmas.List.{append-nil}
 use Rattle.std.proofs.lemmas.List.Elements.{All-head, All-tail}
-use Rattle.pref_terms.specs.Equations.{leaves_of-Leaf, leaves_of-Pareto, leaves_of-Prior}
+use Rattle.pref_terms.specs.Equations.{leaves_of-Leaf, leaves_of-Pareto, leaves_of-Prior, leaves_of-Dual}
 use Rattle.pref_terms.specs.Terms.{leaves_of}
 use Rattle.pref_terms.specs.declared.term.Leaf.{Leaf}
 use Rattle.pref_terms.specs.declared.term.Term.{Term}
-use Rattle.query_tree.proofs.PrefLemmas.{Pareto-IsPref, Prior-IsPref}
+use Rattle.query_tree.proofs.PrefLemmas.{Pareto-IsPref, Prior-IsPref, Dual-IsPref}
 use Rattle.query_tree.specs.WellMade.{IsChain, IsPref}
-use Rattle.query_tree.specs.declared.preference.PrefTree.{PrefTree, Pareto, Prior}
+use Rattle.query_tree.specs.declared.preference.PrefTree.{PrefTree, Pareto, Prior, Dual}
 use Rattle.query_tree.specs.declared.preference.PrefTree as pref
 use Rattle.query_typing.specs.Leaves.{bases_of}
 use Rattle.query_typing.specs.Resolution.{Taken, joined, nested, nested_on, taken, term_of}
 use Rattle.query_typing.specs.declared.leaf.Join.{Join}
 use Rattle.query_typing.specs.declared.leaf.Join.TheVariants as join
-use Rattle.query_typing.proofs.BasesReads.{bases-Base, bases-Pareto, bases-Prior}
-use Rattle.query_typing.proofs.TermReads.{term-Base, term-Pareto, term-Prior}
+use Rattle.query_typing.proofs.BasesReads.{bases-Base, bases-Pareto, bases-Prior, bases-Dual}
+use Rattle.query_typing.proofs.TermReads.{term-Base, term-Pareto, term-Prior, term-Dual}
 use Rattle.query_typing.proofs.TreeInduction.{pref_induction}
 
 -- the leaves of the term and then those that it left are these, and the term has so many
@@ -89,6 +89,12 @@ takes_its_leaves =
     let takes = several join.Prior parts both.0 each both.1 leaves (omega (arith, count, some)) in
     subst (Takes leaves (length (bases_of (Prior parts)))) (sym (term-Prior (Prior parts) parts leaves refl))
     (record { all = takes.all; some = takes.some ∙ sym count }))
+    (λ part each is leaves some.
+    let count = ap length (bases-Dual (Dual part) part refl) in
+    let takes = each (Dual-IsPref part is) leaves (omega (arith, count, some)) in
+    let same = leaves_of-Dual (term_of part leaves).0 in
+    subst (Takes leaves (length (bases_of (Dual part)))) (sym (term-Dual (Dual part) part leaves refl))
+    (record { all = ap (λ ls. ls ++ (term_of part leaves).1) same ∙ takes.all; some = ap length same ∙ takes.some ∙ sym count }))
 
 no_more : (xs : List Leaf) → length xs ≡ 0 → xs ≡ []
 no_more [] none = refl

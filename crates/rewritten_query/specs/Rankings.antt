@@ -34,37 +34,62 @@ codes_where passes n [] = []
 codes_where passes n (v ∷ values) =
     let more = codes_where passes (n + 1) values in if passes v then n ∷ more else more
 
--- the rival has the code of v, and the candidate is outside the graph or has a code that v is above
-abbrev pub code_part : List Edge → ℕ → ℕ → Value → SqlCond
-code_part edges column n v =
-    And (Compare Eq (of_rival column) (number n)
-    ∷ OneOf false (of_candidate column)
-    (number 0 ∷ map number (codes_where (is_above edges v) 1 (graph_values edges)))
-    ∷ [])
+-- of two, each given by its columns: the upper one and the lower one
+module _ (upper lower : ℕ → SqlScalar) where
+  -- the upper one has the code of v, and the lower one is outside the graph or has a code that v is
+  -- above
+  abbrev pub code_part : List Edge → ℕ → ℕ → Value → SqlCond
+  code_part edges column n v =
+      And (Compare Eq (upper column) (number n)
+      ∷ OneOf false (lower column)
+      (number 0 ∷ map number (codes_where (is_above edges v) 1 (graph_values edges)))
+      ∷ [])
 
--- one part for each value, with the codes from n on
-abbrev pub code_parts : List Edge → ℕ → ℕ → List Value → List SqlCond
-code_parts edges column n [] = []
-code_parts edges column n (v ∷ values) =
-    code_part edges column n v ∷ code_parts edges column (n + 1) values
+  -- one part for each value, with the codes from n on
+  abbrev pub code_parts : List Edge → ℕ → ℕ → List Value → List SqlCond
+  code_parts edges column n [] = []
+  code_parts edges column n (v ∷ values) =
+      code_part edges column n v ∷ code_parts edges column (n + 1) values
 
--- the rival is better by a kind whose rank, or for EXPLICIT whose rank and then code, stand from
--- the column on
-abbrev pub kind_better : Kind → ℕ → SqlCond
-kind_better (Explicit g) column =
-    Or (code_parts g.edges (column + 1) 1 (graph_values g.edges))
-kind_better Highest column = Compare Gt (of_rival column) (of_candidate column)
-kind_better kind column = Compare Lt (of_rival column) (of_candidate column)
+  -- the upper one is better by a kind whose rank, or for EXPLICIT whose rank and then code, stand
+  -- from the column on
+  abbrev pub kind_better : Kind → ℕ → SqlCond
+  kind_better (Explicit g) column =
+      Or (code_parts g.edges (column + 1) 1 (graph_values g.edges))
+  kind_better Highest column = Compare Gt (upper column) (lower column)
+  kind_better kind column = Compare Lt (upper column) (lower column)
 
 -- whether the column at a place admits NULL
 abbrev pub admits_null : List FromTable → ColumnPlace → Bool
 admits_null from place = (slice_index_or (columns_from from place.table) place.column
     (record { name = []; domain = Integer; nullable = true })).nullable
 
--- the conditions that the rival is better, and that both are the same
+-- the conditions that the rival is better, that the candidate is, and that both are the same; the
+-- second is the first with rival and candidate exchanged in the better condition of each leaf
 pub record Ranking : Type 0 where
   pub better : SqlCond
+  pub worse : SqlCond
   pub same : SqlCond
+
+-- the rival is better, or turned round the candidate is
+abbrev pub better_if : Bool → Ranking → SqlCond
+better_if turned ranking = if turned then ranking.worse else ranking.better
+
+-- a column of the one that is to be better, and of the other
+abbrev pub upper_side : Bool → ℕ → SqlScalar
+upper_side turned column = if turned then of_candidate column else of_rival column
+
+abbrev pub lower_side : Bool → ℕ → SqlScalar
+lower_side turned column = if turned then of_rival column else of_candidate column
+
+-- better by one part, and better or the same by the other
+abbrev pub pareto_cond : SqlCond → SqlCond → SqlCond → SqlCond → SqlCond
+pareto_cond p_better p_same q_better q_same =
+    Or (And (p_better ∷ Or (q_better ∷ q_same ∷ []) ∷ []) ∷ And (p_same ∷ q_better ∷ []) ∷ [])
+
+-- better by the first part, or the same by it and better by the second
+abbrev pub prior_cond : SqlCond → SqlCond → SqlCond → SqlCond
+prior_cond p_better p_same q_better = Or (p_better ∷ And (p_same ∷ q_better ∷ []) ∷ [])
 
 module _ (places : List ColumnPlace) (leaves : List Leaf) where
   -- the column by which a leaf tells what is the same
@@ -75,7 +100,8 @@ module _ (places : List ColumnPlace) (leaves : List Leaf) where
 
   abbrev pub leaf_ranking : Leaf → Ranking
   leaf_ranking leaf = record {
-    better = kind_better leaf.base (rank_column places leaves leaf.number);
+    better = kind_better of_rival of_candidate leaf.base (rank_column places leaves leaf.number);
+    worse = kind_better of_candidate of_rival leaf.base (rank_column places leaves leaf.number);
     same = Compare Eq (of_rival (same_column leaf)) (of_candidate (same_column leaf));
   }
 
@@ -83,15 +109,16 @@ module _ (places : List ColumnPlace) (leaves : List Leaf) where
   abbrev pub ranking_step : Term-F Ranking → Ranking
   ranking_step (Term-F.Leaf leaf) = leaf_ranking leaf
   ranking_step (Term-F.Pareto p q) = record {
-    better =
-        Or (And (p.better ∷ Or (q.better ∷ q.same ∷ []) ∷ [])
-        ∷ And (p.same ∷ q.better ∷ []) ∷ []);
+    better = pareto_cond p.better p.same q.better q.same;
+    worse = pareto_cond p.worse p.same q.worse q.same;
     same = And (p.same ∷ q.same ∷ []);
   }
   ranking_step (Term-F.Prior p q) = record {
-    better = Or (p.better ∷ And (p.same ∷ q.better ∷ []) ∷ []);
+    better = prior_cond p.better p.same q.better;
+    worse = prior_cond p.worse p.same q.worse;
     same = And (p.same ∷ q.same ∷ []);
   }
+  ranking_step (Term-F.Dual p) = record { better = p.worse; worse = p.better; same = p.same }
 
   unfoldable pub ranking_of : Term → Ranking
   ranking_of = fold-Term Ranking ranking_step

@@ -54,19 +54,19 @@ above_is edges values upper lower r listed told = told ∙ ap (λ ws. is_above e
 
 -- ---- the parts
 
-parts_step : (edges : List Edge) (column n i : ℕ) (values : List Value) → i < length values → code_parts edges column n (take (suc i) values) ≡ code_parts edges column n (take i values) ++ code_part edges column (n + i) (get_or values i Null) ∷ []
-parts_step edges column n i [] small = absurd (omega arith)
-parts_step edges column n zero (v ∷ values) small = let e : n ≡ n + 0 = omega arith in ap (λ m. code_part edges column m v ∷ []) e
-parts_step edges column n (suc i) (v ∷ values) small =
+parts_step : (upper lower : ℕ → SqlScalar) (edges : List Edge) (column n i : ℕ) (values : List Value) → i < length values → code_parts upper lower edges column n (take (suc i) values) ≡ code_parts upper lower edges column n (take i values) ++ code_part upper lower edges column (n + i) (get_or values i Null) ∷ []
+parts_step upper lower edges column n i [] small = absurd (omega arith)
+parts_step upper lower edges column n zero (v ∷ values) small = let e : n ≡ n + 0 = omega arith in ap (λ m. code_part upper lower edges column m v ∷ []) e
+parts_step upper lower edges column n (suc i) (v ∷ values) small =
     let e : n + 1 + i ≡ n + suc i = omega arith in
-    ap (λ more. code_part edges column n v ∷ more) (parts_step edges column (n + 1) i values (omega arith) ∙ ap (λ m. code_parts edges column (n + 1) (take i values) ++ code_part edges column m (get_or values i Null) ∷ []) e)
+    ap (λ more. code_part upper lower edges column n v ∷ more) (parts_step upper lower edges column (n + 1) i values (omega arith) ∙ ap (λ m. code_parts upper lower edges column (n + 1) (take i values) ++ code_part upper lower edges column m (get_or values i Null) ∷ []) e)
 
-pub parts_pushed : (edges : List Edge) (column i : ℕ) (values : List Value) (parts new : List SqlCond) (part : SqlCond) → i < length values → parts ≡ code_parts edges column 1 (take i values)
-    → part ≡ code_part edges column (i + 1) (get_or values i Null) → new ≡ parts ++ part ∷ [] → new ≡ code_parts edges column 1 (take (i + 1) values)
-parts_pushed edges column i values parts new part small so_far part_is pushed =
+pub parts_pushed : (upper lower : ℕ → SqlScalar) (edges : List Edge) (column i : ℕ) (values : List Value) (parts new : List SqlCond) (part : SqlCond) → i < length values → parts ≡ code_parts upper lower edges column 1 (take i values)
+    → part ≡ code_part upper lower edges column (i + 1) (get_or values i Null) → new ≡ parts ++ part ∷ [] → new ≡ code_parts upper lower edges column 1 (take (i + 1) values)
+parts_pushed upper lower edges column i values parts new part small so_far part_is pushed =
     let one : i + 1 ≡ 1 + i = omega arith in
     let next : suc i ≡ i + 1 = omega arith in
     pushed
-    ∙ (λ j. so_far j ++ (part_is ∙ ap (λ m. code_part edges column m (get_or values i Null)) one) j ∷ [])
-    ∙ sym (parts_step edges column 1 i values small)
-    ∙ ap (λ m. code_parts edges column 1 (take m values)) next
+    ∙ (λ j. so_far j ++ (part_is ∙ ap (λ m. code_part upper lower edges column m (get_or values i Null)) one) j ∷ [])
+    ∙ sym (parts_step upper lower edges column 1 i values small)
+    ∙ ap (λ m. code_parts upper lower edges column 1 (take m values)) next

@@ -5,9 +5,9 @@ use Rattle.std.proofs.lemmas.Grind.{flat_map-append}
 use Rattle.std.proofs.lemmas.List.{drop_more}
 use Rattle.prefsql_tables.specs.declared.place.ColumnPlace.{ColumnPlace}
 use Rattle.pref_terms.specs.declared.term.Leaf.{Leaf}
-use Rattle.pref_terms.specs.declared.term.Term.{Term, Pareto, Prior}
+use Rattle.pref_terms.specs.declared.term.Term.{Term, Pareto, Prior, Dual}
 use Rattle.pref_terms.specs.declared.term.Term as term
-use Rattle.pref_terms.specs.Equations.{leaves_of-Leaf, leaves_of-Pareto, leaves_of-Prior}
+use Rattle.pref_terms.specs.Equations.{leaves_of-Leaf, leaves_of-Pareto, leaves_of-Prior, leaves_of-Dual}
 use Rattle.pref_terms.specs.Terms.{leaves_of}
 use Rattle.sql_tree.specs.declared.tree.SqlItem.{SqlItem}
 use Rattle.rewritten_query.specs.Columns.{leaf_items, used_items}
@@ -46,4 +46,7 @@ items-Pareto t p q is = ap (flat_map leaf_items) (ap leaves_of is ∙ leaves_of-
 pub items-Prior : (t p q : Term) → t ≡ Prior p q → flat_map leaf_items (leaves_of t) ≡ flat_map leaf_items (leaves_of p) ++ flat_map leaf_items (leaves_of q)
 items-Prior t p q is = ap (flat_map leaf_items) (ap leaves_of is ∙ leaves_of-Prior p q) ∙ flat_map-append leaf_items (leaves_of p) (leaves_of q)
 
-pub ruleset leaf_pushes = (items-Leaf, items-Pareto, items-Prior, append_assoc, append-nil)
+pub items-Dual : (t p : Term) → t ≡ Dual p → flat_map leaf_items (leaves_of t) ≡ flat_map leaf_items (leaves_of p)
+items-Dual t p is = ap (flat_map leaf_items) (ap leaves_of is ∙ leaves_of-Dual p)
+
+pub ruleset leaf_pushes = (items-Leaf, items-Pareto, items-Prior, items-Dual, append_assoc, append-nil)

@@ -7,9 +7,9 @@ use Rattle.std.proofs.lemmas.List.FromFn.{filter_of_map_range_with_len_more}
 use Rattle.prefsql_values.specs.declared.value.CompareOp.{CompareOp}
 use Rattle.prefsql_tables.specs.declared.place.ColumnPlace.{ColumnPlace}
 use Rattle.pref_terms.specs.declared.term.Leaf.{Leaf}
-use Rattle.pref_terms.specs.declared.term.Term.{Term, Pareto, Prior}
+use Rattle.pref_terms.specs.declared.term.Term.{Term, Pareto, Prior, Dual}
 use Rattle.pref_terms.specs.declared.term.Term as term
-use Rattle.pref_terms.specs.Equations.{leaves_of-Leaf, leaves_of-Pareto, leaves_of-Prior}
+use Rattle.pref_terms.specs.Equations.{leaves_of-Leaf, leaves_of-Pareto, leaves_of-Prior, leaves_of-Dual}
 use Rattle.pref_terms.specs.Terms.{leaves_of}
 use Rattle.conditions.specs.declared.condition.Quality.{Quality}
 use Rattle.conditions.specs.declared.condition.Scalar.{Scalar}
@@ -75,7 +75,10 @@ trivial-Pareto t p q is = ap (flat_map trivial_column) (ap leaves_of is ∙ leav
 pub trivial-Prior : (t p q : Term) → t ≡ Prior p q → flat_map trivial_column (leaves_of t) ≡ flat_map trivial_column (leaves_of p) ++ flat_map trivial_column (leaves_of q)
 trivial-Prior t p q is = ap (flat_map trivial_column) (ap leaves_of is ∙ leaves_of-Prior p q) ∙ flat_map-append trivial_column (leaves_of p) (leaves_of q)
 
-pub ruleset term_columns = (trivial-Leaf, trivial-Pareto, trivial-Prior, append_assoc, append-nil)
+pub trivial-Dual : (t p : Term) → t ≡ Dual p → flat_map trivial_column (leaves_of t) ≡ flat_map trivial_column (leaves_of p)
+trivial-Dual t p is = ap (flat_map trivial_column) (ap leaves_of is ∙ leaves_of-Dual p)
+
+pub ruleset term_columns = (trivial-Leaf, trivial-Pareto, trivial-Prior, trivial-Dual, append_assoc, append-nil)
 
 -- the columns of a table, one more
 pub column_pushed : (table n : ℕ) (mentioned start used new : List ColumnPlace) (b : Bool) → b ≡ list_any (place_eq (record { table = table; column = n })) mentioned

@@ -3,8 +3,8 @@ use Rattle.std.proofs.Common.{◌≡◌, ℕ, zero, suc, ◌+◌, ◌-◌, ◌*�
 use Rattle.std.specs.List.{flat_map}
 use Rattle.std.proofs.lemmas.Grind.{flat_map-append}
 use Rattle.pref_terms.specs.declared.term.Leaf.{Leaf}
-use Rattle.pref_terms.specs.declared.term.Term.{Term, Pareto, Prior}
-use Rattle.pref_terms.specs.Equations.{leaves_of-Pareto, leaves_of-Prior}
+use Rattle.pref_terms.specs.declared.term.Term.{Term, Pareto, Prior, Dual}
+use Rattle.pref_terms.specs.Equations.{leaves_of-Pareto, leaves_of-Prior, leaves_of-Dual}
 use Rattle.pref_terms.specs.Terms.{leaves_of}
 use Rattle.rewritten_query.specs.Columns.{leaf_items}
 
@@ -46,4 +46,12 @@ few-Prior t p q a b is h k =
     let size : length (leaves_of t) ≡ length (leaves_of p) + length (leaves_of q) = ap length (ap leaves_of is ∙ leaves_of-Prior p q) ∙ length-append (leaves_of p) (leaves_of q) in
     omega (arith, size, h, k)
 
-pub ruleset widths = (width-Pareto, width-Prior, few-Pareto, few-Prior)
+pub width-Dual : (t p : Term) (a count : ℕ) → t ≡ Dual p → a ≡ length (flat_map leaf_items (take count (leaves_of p))) → a ≡ length (flat_map leaf_items (take count (leaves_of t)))
+width-Dual t p a count is a_is = a_is ∙ ap (λ leaves. length (flat_map leaf_items (take count leaves))) (sym (ap leaves_of is ∙ leaves_of-Dual p))
+
+pub few-Dual : (t p : Term) (a : ℕ) → t ≡ Dual p → a ≤ 2 * length (leaves_of p) → a ≤ 2 * length (leaves_of t)
+few-Dual t p a is h =
+    let size : length (leaves_of t) ≡ length (leaves_of p) = ap length (ap leaves_of is ∙ leaves_of-Dual p) in
+    omega (arith, size, h)
+
+pub ruleset widths = (width-Pareto, width-Prior, width-Dual, few-Pareto, few-Prior, few-Dual)

@@ -85,6 +85,7 @@ fn push_leaves(alloc: Global, term: &Term, items: &mut List<SqlItem>) -> Result<
             push_leaves(alloc, first.get(), items)?;
             push_leaves(alloc, second.get(), items)
         }
+        Term::Dual(inner) => push_leaves(alloc, inner.get(), items),
     }
 }
 

@@ -39,6 +39,7 @@ fn leaf_count(term: &Term) -> u32
         Term::Leaf(_) => 1,
         Term::Pareto(first, second) => leaf_count(first.get()) + leaf_count(second.get()),
         Term::Prior(first, second) => leaf_count(first.get()) + leaf_count(second.get()),
+        Term::Dual(inner) => leaf_count(inner.get()),
     }
 }
 
@@ -67,6 +68,7 @@ fn width(term: &Term, count: u32) -> u32
             let passed = leaf_count(first.get());
             width(first.get(), count) + width(second.get(), count.saturating_sub(passed))
         }
+        Term::Dual(inner) => width(inner.get(), count),
     }
 }
 

@@ -7,7 +7,7 @@ ghost use Rattle.base_prefs.specs.Kind.{edges_of, is_explicit};
 ghost use Rattle.sql_tree.specs.declared.tree.SqlCond.{Compare, Or};
 ghost use Rattle.pref_terms.specs.Terms.{leaves_of};
 ghost use Rattle.rewritten_query.specs.Leaves.{number};
-ghost use Rattle.rewritten_query.specs.Rankings.{code_part, code_parts, codes_where, kind_better, of_candidate, of_rival};
+ghost use Rattle.rewritten_query.specs.Rankings.{code_part, code_parts, codes_where, kind_better, lower_side, of_candidate, of_rival, upper_side};
 
 use crate::literals::number;
 use crate::names::column_up;
@@ -30,10 +30,32 @@ pub(crate) fn of_candidate(column: u32) -> SqlScalar
     column_up(1, column)
 }
 
-fn compared(op: CompareOp, column: u32) -> SqlCond
-    ensures { result ≡ Compare op (of_rival column) (of_candidate column) }
+/// A column of the one that is to be better: of the rival, or turned round of the candidate.
+fn of_upper(turned: bool, column: u32) -> SqlScalar
+    ensures { result ≡ upper_side turned column }
 {
-    SqlCond::Compare(op, of_rival(column), of_candidate(column))
+    if turned {
+        of_candidate(column)
+    } else {
+        of_rival(column)
+    }
+}
+
+/// A column of the other.
+fn of_lower(turned: bool, column: u32) -> SqlScalar
+    ensures { result ≡ lower_side turned column }
+{
+    if turned {
+        of_rival(column)
+    } else {
+        of_candidate(column)
+    }
+}
+
+fn compared(op: CompareOp, turned: bool, column: u32) -> SqlCond
+    ensures { result ≡ Compare op (upper_side turned column) (lower_side turned column) }
+{
+    SqlCond::Compare(op, of_upper(turned, column), of_lower(turned, column))
 }
 
 /// 0, and the codes of the values that the value at the place is above.
@@ -62,11 +84,12 @@ fn codes_below(
     Ok(codes)
 }
 
-/// The rival has the code of the value at the place, and the candidate is outside the graph or has
-/// a code below it.
+/// The upper one has the code of the value at the place, and the lower one is outside the graph or
+/// has a code below it.
 fn code_part(
     alloc: Global,
     base: &BasePref,
+    turned: bool,
     column: u32,
     values: &[Value],
     upper: usize,
@@ -76,14 +99,18 @@ fn code_part(
     requires few { length values.now ≤ 16 }
     requires within { upper < length values.now }
     ensures { IfOk result
-        (λ cond. cond ≡ code_part (edges_of base.now) column (upper + 1)
-        (slice_index_or values.now upper Null)) }
+        (λ cond. cond ≡ code_part (upper_side turned) (lower_side turned) (edges_of base.now) column
+        (upper + 1) (slice_index_or values.now upper Null)) }
 {
     let mut parts = List::new(alloc);
     let code = number(upper as u32 + 1);
-    parts.push(SqlCond::Compare(CompareOp::Eq, of_rival(column), code))?;
+    parts.push(SqlCond::Compare(
+        CompareOp::Eq,
+        of_upper(turned, column),
+        code,
+    ))?;
     let codes = codes_below(alloc, base, values, upper)?;
-    parts.push(SqlCond::OneOf(false, of_candidate(column), codes))?;
+    parts.push(SqlCond::OneOf(false, of_lower(turned, column), codes))?;
     Ok(SqlCond::And(parts))
 }
 
@@ -91,38 +118,53 @@ fn code_part(
 fn code_parts(
     alloc: Global,
     base: &BasePref,
+    turned: bool,
     column: u32,
     values: &[Value],
 ) -> Result<List<SqlCond>, Memory>
     requires explicit { IsTrue (is_explicit base.now) }
     requires listed { values.now ≡ graph_values (edges_of base.now) }
     requires few { length values.now ≤ 16 }
-    ensures { IfOk result (λ parts. parts ≡ code_parts (edges_of base.now) column 1 values.now) }
+    ensures { IfOk result
+        (λ parts. parts ≡ code_parts (upper_side turned) (lower_side turned) (edges_of base.now)
+        column 1 values.now) }
 {
     let mut parts = List::new(alloc);
     for upper in 0..values.len() {
-        parts.push(code_part(alloc, base, column, values, upper)?)?;
+        parts.push(code_part(alloc, base, turned, column, values, upper)?)?;
     }
     Ok(parts)
 }
 
-/// The rival is better by the base preference, whose rank stands in the column, and behind it the
-/// code of an EXPLICIT one.
-pub(crate) fn kind_better(alloc: Global, base: &BasePref, column: u32) -> Result<SqlCond, Memory>
+/// The rival, or turned round the candidate, is better by the base preference, whose rank stands in
+/// the column, and behind it the code of an EXPLICIT one.
+pub(crate) fn kind_better(
+    alloc: Global,
+    base: &BasePref,
+    turned: bool,
+    column: u32,
+) -> Result<SqlCond, Memory>
     requires { column < 2 ^ 31 }
-    ensures { IfOk result (λ cond. cond ≡ kind_better base.now column) }
+    ensures { IfOk result
+        (λ cond. cond ≡ kind_better (upper_side turned) (lower_side turned) base.now column) }
 {
     base.keeps_limits();
     match base.view() {
-        BaseView::Explicit(values) => Ok(SqlCond::Or(code_parts(alloc, base, column + 1, values)?)),
-        BaseView::Highest => Ok(compared(CompareOp::Gt, column)),
-        BaseView::Pos(_) => Ok(compared(CompareOp::Lt, column)),
-        BaseView::Neg(_) => Ok(compared(CompareOp::Lt, column)),
-        BaseView::PosPos(_, _) => Ok(compared(CompareOp::Lt, column)),
-        BaseView::PosNeg(_, _) => Ok(compared(CompareOp::Lt, column)),
-        BaseView::Layered(_, _) => Ok(compared(CompareOp::Lt, column)),
-        BaseView::Around(_) => Ok(compared(CompareOp::Lt, column)),
-        BaseView::Between(_, _) => Ok(compared(CompareOp::Lt, column)),
-        BaseView::Lowest => Ok(compared(CompareOp::Lt, column)),
+        BaseView::Explicit(values) => Ok(SqlCond::Or(code_parts(
+            alloc,
+            base,
+            turned,
+            column + 1,
+            values,
+        )?)),
+        BaseView::Highest => Ok(compared(CompareOp::Gt, turned, column)),
+        BaseView::Pos(_) => Ok(compared(CompareOp::Lt, turned, column)),
+        BaseView::Neg(_) => Ok(compared(CompareOp::Lt, turned, column)),
+        BaseView::PosPos(_, _) => Ok(compared(CompareOp::Lt, turned, column)),
+        BaseView::PosNeg(_, _) => Ok(compared(CompareOp::Lt, turned, column)),
+        BaseView::Layered(_, _) => Ok(compared(CompareOp::Lt, turned, column)),
+        BaseView::Around(_) => Ok(compared(CompareOp::Lt, turned, column)),
+        BaseView::Between(_, _) => Ok(compared(CompareOp::Lt, turned, column)),
+        BaseView::Lowest => Ok(compared(CompareOp::Lt, turned, column)),
     }
 }

@@ -82,7 +82,7 @@ fn rival_conds(
     for group in block.groups.as_slice() {
         conds.push(group_cond(alloc, places, block.from.as_slice(), *group)?)?;
     }
-    conds.push(better(alloc, places, term, term)?)?;
+    conds.push(better(alloc, places, term, false, term)?)?;
     Ok(conds)
 }
 

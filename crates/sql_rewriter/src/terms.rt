@@ -2,7 +2,7 @@
 ghost use Rattle.std.specs.Prelude.{◌≡◌, ◌<◌, ◌^◌, [], ◌∷◌, length, IfOk};
 ghost use Rattle.sql_tree.specs.declared.tree.SqlCond.{And, Or};
 ghost use Rattle.pref_terms.specs.Terms.{leaves_of};
-ghost use Rattle.rewritten_query.specs.Rankings.{leaf_ranking, ranking_of};
+ghost use Rattle.rewritten_query.specs.Rankings.{better_if, leaf_ranking, ranking_of};
 
 use crate::columns::{number_among, rank_column};
 use crate::rankings::{kind_better, of_candidate, of_rival};
@@ -32,19 +32,26 @@ pub(crate) fn either(alloc: Global, first: SqlCond, second: SqlCond) -> Result<S
     Ok(SqlCond::Or(parts))
 }
 
-/// The rival is better by the leaf.
+/// The rival is better by the leaf, or turned round the candidate.
+#[tactic(auto, using(crate::proofs::TermReads::leaf_sides))]
 fn leaf_better(
     alloc: Global,
     places: &[ColumnPlace],
     whole: &Term,
+    turned: bool,
     leaf: &Leaf,
 ) -> Result<SqlCond, Memory>
     requires few_places { length places.now < 2 ^ 16 }
     requires few_leaves { length (leaves_of whole.now) < 2 ^ 16 }
     ensures { IfOk result
-        (λ cond. cond ≡ (leaf_ranking places.now (leaves_of whole.now) leaf.now).better) }
+        (λ cond. cond ≡ better_if turned (leaf_ranking places.now (leaves_of whole.now) leaf.now)) }
 {
-    kind_better(alloc, &leaf.base, rank_column(places, whole, leaf.number))
+    kind_better(
+        alloc,
+        &leaf.base,
+        turned,
+        rank_column(places, whole, leaf.number),
+    )
 }
 
 /// Both are the same by the leaf.
@@ -81,41 +88,45 @@ fn same(alloc: Global, places: &[ColumnPlace], whole: &Term, term: &Term) -> Res
             let q = same(alloc, places, whole, second.get())?;
             both(alloc, p, q)
         }
+        Term::Dual(inner) => same(alloc, places, whole, inner.get()),
     }
 }
 
-/// The rival is better by the term.
+/// The rival is better by the term, or turned round the candidate: the sides are exchanged in the
+/// better condition of each leaf, and not in a same condition.
 #[tactic(auto, using(crate::proofs::TermReads::better_reads))]
 pub(crate) fn better(
     alloc: Global,
     places: &[ColumnPlace],
     whole: &Term,
+    turned: bool,
     term: &Term,
 ) -> Result<SqlCond, Memory>
     requires few_places { length places.now < 2 ^ 16 }
     requires few_leaves { length (leaves_of whole.now) < 2 ^ 16 }
     ensures { IfOk result
-        (λ cond. cond ≡ (ranking_of places.now (leaves_of whole.now) term.now).better) }
+        (λ cond. cond ≡ better_if turned (ranking_of places.now (leaves_of whole.now) term.now)) }
 {
     match term {
-        Term::Leaf(leaf) => leaf_better(alloc, places, whole, leaf),
+        Term::Leaf(leaf) => leaf_better(alloc, places, whole, turned, leaf),
         Term::Pareto(first, second) => {
-            let p = better(alloc, places, whole, first.get())?;
-            let q = better(alloc, places, whole, second.get())?;
+            let p = better(alloc, places, whole, turned, first.get())?;
+            let q = better(alloc, places, whole, turned, second.get())?;
             let same_q = same(alloc, places, whole, second.get())?;
             let either_q = either(alloc, q, same_q)?;
             let by_first = both(alloc, p, either_q)?;
             let same_p = same(alloc, places, whole, first.get())?;
-            let again = better(alloc, places, whole, second.get())?;
+            let again = better(alloc, places, whole, turned, second.get())?;
             let by_second = both(alloc, same_p, again)?;
             either(alloc, by_first, by_second)
         }
         Term::Prior(first, second) => {
-            let p = better(alloc, places, whole, first.get())?;
+            let p = better(alloc, places, whole, turned, first.get())?;
             let same_p = same(alloc, places, whole, first.get())?;
-            let q = better(alloc, places, whole, second.get())?;
+            let q = better(alloc, places, whole, turned, second.get())?;
             let by_second = both(alloc, same_p, q)?;
             either(alloc, p, by_second)
         }
+        Term::Dual(inner) => better(alloc, places, whole, !turned, inner.get()),
     }
 }

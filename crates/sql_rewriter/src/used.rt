@@ -99,6 +99,7 @@ fn push_trivial(term: &Term, places: &mut List<ColumnPlace>) -> Result<(), Memor
             push_trivial(first.get(), places)?;
             push_trivial(second.get(), places)
         }
+        Term::Dual(inner) => push_trivial(inner.get(), places),
     }
 }
 

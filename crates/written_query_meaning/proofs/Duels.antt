@@ -32,11 +32,12 @@ use Rattle.query_meaning.specs.Answers.{indexes_of, row_counts, seen}
 use Rattle.query_meaning.specs.BlockFits.{FitsTables, IsLeaf, IsPlace}
 use Rattle.query_meaning.specs.Choices.{IsChoice}
 use Rattle.query_meaning.proofs.ChoiceLemmas.{columns_there, scalar_fits}
+use Rattle.sql_tree.specs.declared.tree.SqlScalar.{SqlScalar}
 use Rattle.sql_tree.specs.declared.tree.SqlCond.{And, Or, Compare, IsNull}
 use Rattle.sql_tree.specs.Meaning.{Scopes, truth_in, value_in}
 use Rattle.sql_tree.proofs.MeaningLemmas.{truth_in-And, truth_in-Compare, truth_in-IsNull, truth_in-Or, value_in-Column}
 use Rattle.rewritten_query.specs.Columns.{mentioned, number_among, own_column, rank_column, trivial_column, used}
-use Rattle.written_query_meaning.specs.Held.{codes_of}
+use Rattle.written_query_meaning.specs.Held.{codes_of, rank_of}
 use Rattle.written_query_meaning.specs.Meaning.{JudgesPair, duel, held_by}
 use Rattle.rewritten_query.specs.Rankings.{admits_null, group_cond, leaf_ranking, of_candidate, of_rival, ranking_of}
 use Rattle.query_meaning.specs.Valid.{IsValidBlock}
@@ -127,20 +128,20 @@ judged_value (Between low up) v judged = λ e. subst (IsJudged (Between low up))
 judged_value Lowest v judged = λ e. subst (IsJudged Lowest) e judged
 judged_value Highest v judged = λ e. subst (IsJudged Highest) e judged
 
-codes_shown : (tables : Tables) (scopes : Scopes) (column : ℕ) (kind : Kind) (y x : Value)
-    → (0 < length (codes_of kind y) → value_in tables (of_rival column) scopes ≡ get_or (codes_of kind y) 0 Null)
-    → (0 < length (codes_of kind x) → value_in tables (of_candidate column) scopes ≡ get_or (codes_of kind x) 0 Null)
-    → AreCodes tables scopes column kind y x
-codes_shown tables scopes column (Explicit g) y x rival candidate = (rival (omega arith), candidate (omega arith))
-codes_shown tables scopes column (Pos s) y x rival candidate = tt
-codes_shown tables scopes column (Neg s) y x rival candidate = tt
-codes_shown tables scopes column (PosPos s t) y x rival candidate = tt
-codes_shown tables scopes column (PosNeg s t) y x rival candidate = tt
-codes_shown tables scopes column (Layered before after) y x rival candidate = tt
-codes_shown tables scopes column (Around z) y x rival candidate = tt
-codes_shown tables scopes column (Between low up) y x rival candidate = tt
-codes_shown tables scopes column Lowest y x rival candidate = tt
-codes_shown tables scopes column Highest y x rival candidate = tt
+codes_shown : (tables : Tables) (scopes : Scopes) (upper lower : ℕ → SqlScalar) (column : ℕ) (kind : Kind) (y x : Value)
+    → (0 < length (codes_of kind y) → value_in tables (upper column) scopes ≡ get_or (codes_of kind y) 0 Null)
+    → (0 < length (codes_of kind x) → value_in tables (lower column) scopes ≡ get_or (codes_of kind x) 0 Null)
+    → AreCodes tables scopes upper lower column kind y x
+codes_shown tables scopes upper lower column (Explicit g) y x rival candidate = (rival (omega arith), candidate (omega arith))
+codes_shown tables scopes upper lower column (Pos s) y x rival candidate = tt
+codes_shown tables scopes upper lower column (Neg s) y x rival candidate = tt
+codes_shown tables scopes upper lower column (PosPos s t) y x rival candidate = tt
+codes_shown tables scopes upper lower column (PosNeg s t) y x rival candidate = tt
+codes_shown tables scopes upper lower column (Layered before after) y x rival candidate = tt
+codes_shown tables scopes upper lower column (Around z) y x rival candidate = tt
+codes_shown tables scopes upper lower column (Between low up) y x rival candidate = tt
+codes_shown tables scopes upper lower column Lowest y x rival candidate = tt
+codes_shown tables scopes upper lower column Highest y x rival candidate = tt
 
 -- ---- two candidates
 
@@ -180,20 +181,29 @@ module _ (block : Block) (term : Term) (is : IsValidBlock block) (term_is : bloc
     x_judged : IsJudged leaf.base (own leaf.place)
     x_judged = All-contains (λ (l : Leaf). IsJudged l.base (own l.place)) leaves leaf (leaves_judged block term is term_is tables valid fits x x_chosen) there
 
-    ranks : AreRanks tables scopes (rank_column places leaves leaf.number) leaf.base (other leaf.place) (own leaf.place)
-    ranks = record {
-      rival = rival_read (rank_column places leaves leaf.number) ∙ rank_cell places leaves other (leaves_numbered block term is term_is) leaf there;
-      candidate = candidate_read (rank_column places leaves leaf.number) ∙ rank_cell places leaves own (leaves_numbered block term is term_is) leaf there;
-      rival_judged = y_judged;
-      candidate_judged = x_judged;
-    }
+    rival_rank : value_in tables (of_rival (rank_column places leaves leaf.number)) scopes ≡ rank_of leaf.base (other leaf.place)
+    rival_rank = rival_read (rank_column places leaves leaf.number) ∙ rank_cell places leaves other (leaves_numbered block term is term_is) leaf there
 
-    codes : AreCodes tables scopes (rank_column places leaves leaf.number + 1) leaf.base (other leaf.place) (own leaf.place)
-    codes =
-        let column = rank_column places leaves leaf.number + 1 in
-        codes_shown tables scopes column leaf.base (other leaf.place) (own leaf.place)
-        (λ some. rival_read column ∙ code_cell places leaves other (leaves_numbered block term is term_is) leaf there some)
-        (λ some. candidate_read column ∙ code_cell places leaves own (leaves_numbered block term is term_is) leaf there some)
+    candidate_rank : value_in tables (of_candidate (rank_column places leaves leaf.number)) scopes ≡ rank_of leaf.base (own leaf.place)
+    candidate_rank = candidate_read (rank_column places leaves leaf.number) ∙ rank_cell places leaves own (leaves_numbered block term is term_is) leaf there
+
+    ranks : AreRanks tables scopes of_rival of_candidate (rank_column places leaves leaf.number) leaf.base (other leaf.place) (own leaf.place)
+    ranks = record { upper_is = rival_rank; lower_is = candidate_rank; upper_judged = y_judged; lower_judged = x_judged }
+
+    ranks_back : AreRanks tables scopes of_candidate of_rival (rank_column places leaves leaf.number) leaf.base (own leaf.place) (other leaf.place)
+    ranks_back = record { upper_is = candidate_rank; lower_is = rival_rank; upper_judged = x_judged; lower_judged = y_judged }
+
+    rival_code : 0 < length (codes_of leaf.base (other leaf.place)) → value_in tables (of_rival (rank_column places leaves leaf.number + 1)) scopes ≡ get_or (codes_of leaf.base (other leaf.place)) 0 Null
+    rival_code some = rival_read (rank_column places leaves leaf.number + 1) ∙ code_cell places leaves other (leaves_numbered block term is term_is) leaf there some
+
+    candidate_code : 0 < length (codes_of leaf.base (own leaf.place)) → value_in tables (of_candidate (rank_column places leaves leaf.number + 1)) scopes ≡ get_or (codes_of leaf.base (own leaf.place)) 0 Null
+    candidate_code some = candidate_read (rank_column places leaves leaf.number + 1) ∙ code_cell places leaves own (leaves_numbered block term is term_is) leaf there some
+
+    codes : AreCodes tables scopes of_rival of_candidate (rank_column places leaves leaf.number + 1) leaf.base (other leaf.place) (own leaf.place)
+    codes = codes_shown tables scopes of_rival of_candidate (rank_column places leaves leaf.number + 1) leaf.base (other leaf.place) (own leaf.place) rival_code candidate_code
+
+    codes_back : AreCodes tables scopes of_candidate of_rival (rank_column places leaves leaf.number + 1) leaf.base (own leaf.place) (other leaf.place)
+    codes_back = codes_shown tables scopes of_candidate of_rival (rank_column places leaves leaf.number + 1) leaf.base (own leaf.place) (other leaf.place) candidate_code rival_code
 
     trivial_used : leaf.trivial ≡ true → Contains places leaf.place
     trivial_used trivial =
@@ -210,11 +220,12 @@ module _ (block : Block) (term : Term) (is : IsValidBlock block) (term_is : bloc
         truth_in-Compare tables Eq (of_rival n) (of_candidate n) scopes
         ∙ (λ j. comparison Eq (rival_used leaf.place (trivial_used trivial) j) (candidate_used leaf.place (trivial_used trivial) j))
         ∙ equal_values (other leaf.place) (own leaf.place) (judged_value leaf.base (other leaf.place) y_judged) (judged_value leaf.base (own leaf.place) x_judged)
-    same_by false regular = same_key_read tables scopes (rank_column places leaves leaf.number) (other leaf.place) (own leaf.place) leaf.base ranks
+    same_by false regular = same_key_read tables scopes of_rival of_candidate (rank_column places leaves leaf.number) (other leaf.place) (own leaf.place) leaf.base ranks
 
     leaf_decided : AreDecided tables scopes (leaf_ranking places leaves leaf) (leaf_order leaf) other own
     leaf_decided = record {
-      better = better_read tables scopes (rank_column places leaves leaf.number) (other leaf.place) (own leaf.place) leaf.base ranks codes;
+      better = better_read tables scopes of_rival of_candidate (rank_column places leaves leaf.number) (other leaf.place) (own leaf.place) leaf.base ranks codes;
+      worse = better_read tables scopes of_candidate of_rival (rank_column places leaves leaf.number) (own leaf.place) (other leaf.place) leaf.base ranks_back codes_back;
       same = same_by leaf.trivial refl;
     }
 

@@ -23,11 +23,12 @@ use Rattle.base_prefs.specs.Graph.{explicit_better, graph_values, is_above}
 use Rattle.base_prefs.specs.GraphLaws.{above_upper}
 use Rattle.base_prefs.specs.Values.{is_in, place_of}
 use Rattle.sql_tree.specs.declared.tree.SqlCond.{Or, Compare, OneOf}
+use Rattle.sql_tree.specs.declared.tree.SqlScalar.{SqlScalar}
 use Rattle.sql_tree.specs.Meaning.{Scopes, truth_in, value_in}
 use Rattle.sql_tree.proofs.MeaningLemmas.{truth_in-And, truth_in-Or, truth_in-Compare, truth_in-OneOf}
 use Rattle.written_query_meaning.specs.Held.{code_of}
 use Rattle.rewritten_query.specs.Leaves.{number}
-use Rattle.rewritten_query.specs.Rankings.{code_part, code_parts, codes_where, of_candidate, of_rival}
+use Rattle.rewritten_query.specs.Rankings.{code_part, code_parts, codes_where}
 use Rattle.written_query_meaning.proofs.Compared.{both_of, either_of, equal_numbers}
 use Rattle.written_query_meaning.proofs.Readings.{number_read}
 
@@ -158,27 +159,27 @@ module _ (edges : List Edge) (y x : Value) where
             ∙ sym (or_from (is_above edges y x) (is_in values y && not (is_in values x)) (not_above outside) (and_left (is_in values y) (not (is_in values x)) outside))
       ]
 
-  module _ (tables : Tables) (scopes : Scopes) (column : ℕ)
-      (rival : value_in tables (of_rival column) scopes ≡ Num (pos (code_of edges y))) (candidate : value_in tables (of_candidate column) scopes ≡ Num (pos (code_of edges x))) where
+  module _ (tables : Tables) (scopes : Scopes) (upper lower : ℕ → SqlScalar) (column : ℕ)
+      (upper_is : value_in tables (upper column) scopes ≡ Num (pos (code_of edges y))) (lower_is : value_in tables (lower column) scopes ≡ Num (pos (code_of edges x))) where
     numbers_read : (ns : List ℕ) → map (λ b. value_in tables b scopes) (map number ns) ≡ numbers ns
     numbers_read [] = refl
     numbers_read (n ∷ ns) = λ j. number_read tables scopes n j ∷ numbers_read ns j
 
-    part_read : (n : ℕ) (v : Value) → truth_in tables (code_part edges column n v) scopes ≡ truth_of (nat_eq (code_of edges y) n && covers v)
+    part_read : (n : ℕ) (v : Value) → truth_in tables (code_part upper lower edges column n v) scopes ≡ truth_of (nat_eq (code_of edges y) n && covers v)
     part_read n v =
         let codes = 0 ∷ codes_where (is_above edges v) 1 values in
-        let of_code : truth_in tables (Compare Eq (of_rival column) (number n)) scopes ≡ truth_of (nat_eq (code_of edges y) n) =
-        truth_in-Compare tables Eq (of_rival column) (number n) scopes ∙ (λ j. comparison Eq (rival j) (number_read tables scopes n j)) ∙ equal_naturals (code_of edges y) n in
-        let of_codes : truth_in tables (OneOf false (of_candidate column) (map number codes)) scopes ≡ truth_of (covers v) =
-        truth_in-OneOf tables false (of_candidate column) (map number codes) scopes ∙ (λ j. one_of (candidate j) (numbers_read codes j)) ∙ one_of_numbers (code_of edges x) codes in
-        truth_in-And tables (Compare Eq (of_rival column) (number n) ∷ OneOf false (of_candidate column) (map number codes) ∷ []) scopes
+        let of_code : truth_in tables (Compare Eq (upper column) (number n)) scopes ≡ truth_of (nat_eq (code_of edges y) n) =
+        truth_in-Compare tables Eq (upper column) (number n) scopes ∙ (λ j. comparison Eq (upper_is j) (number_read tables scopes n j)) ∙ equal_naturals (code_of edges y) n in
+        let of_codes : truth_in tables (OneOf false (lower column) (map number codes)) scopes ≡ truth_of (covers v) =
+        truth_in-OneOf tables false (lower column) (map number codes) scopes ∙ (λ j. one_of (lower_is j) (numbers_read codes j)) ∙ one_of_numbers (code_of edges x) codes in
+        truth_in-And tables (Compare Eq (upper column) (number n) ∷ OneOf false (lower column) (map number codes) ∷ []) scopes
         ∙ (λ j. both_true (of_code j) (both_true (of_codes j) truths.True))
         ∙ ap (both_true (truth_of (nat_eq (code_of edges y) n))) (both_last (covers v))
         ∙ both_of (nat_eq (code_of edges y) n) (covers v)
 
-    parts_read : (n : ℕ) (vs : List Value) → any_true (map (λ part. truth_in tables part scopes) (code_parts edges column n vs)) ≡ truth_of (hit n vs)
+    parts_read : (n : ℕ) (vs : List Value) → any_true (map (λ part. truth_in tables part scopes) (code_parts upper lower edges column n vs)) ≡ truth_of (hit n vs)
     parts_read n [] = refl
     parts_read n (v ∷ vs) = (λ j. either_true (part_read n v j) (parts_read (n + 1) vs j)) ∙ either_of (nat_eq (code_of edges y) n && covers v) (hit (n + 1) vs)
 
-    pub explicit_read : truth_in tables (Or (code_parts edges column 1 (graph_values edges))) scopes ≡ truth_of (explicit_better edges y x)
-    explicit_read = truth_in-Or tables (code_parts edges column 1 values) scopes ∙ parts_read 1 values ∙ ap truth_of hit_is
+    pub explicit_read : truth_in tables (Or (code_parts upper lower edges column 1 (graph_values edges))) scopes ≡ truth_of (explicit_better edges y x)
+    explicit_read = truth_in-Or tables (code_parts upper lower edges column 1 values) scopes ∙ parts_read 1 values ∙ ap truth_of hit_is

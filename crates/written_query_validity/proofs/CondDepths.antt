@@ -13,11 +13,11 @@ use Rattle.base_prefs.specs.Graph.{graph_values, is_above}
 use Rattle.base_prefs.specs.declared.edge.Edge.{Edge}
 use Rattle.base_prefs.specs.declared.kind.Kind.{Kind}
 use Rattle.base_prefs.specs.declared.kind.Kind.TheVariants.{Pos, Neg, PosPos, PosNeg, Layered, Explicit, Around, Between, Lowest, Highest}
-use Rattle.pref_terms.specs.Equations.{leaves_of-Leaf, leaves_of-Pareto, leaves_of-Prior}
+use Rattle.pref_terms.specs.Equations.{leaves_of-Leaf, leaves_of-Pareto, leaves_of-Prior, leaves_of-Dual}
 use Rattle.pref_terms.specs.Induction.{term_induction}
 use Rattle.pref_terms.specs.Terms.{leaves_of}
 use Rattle.pref_terms.specs.declared.term.Leaf.{Leaf}
-use Rattle.pref_terms.specs.declared.term.Term.{Term, Pareto, Prior}
+use Rattle.pref_terms.specs.declared.term.Term.{Term, Pareto, Prior, Dual}
 use Rattle.pref_terms.specs.declared.term.Term as term
 use Rattle.conditions.specs.Meaning.{scalars_of}
 use Rattle.conditions.specs.declared.condition.Quality.{Quality}
@@ -42,7 +42,7 @@ use Rattle.rewritten_query.specs.Names.{column_up}
 use Rattle.rewritten_query.specs.Rankings.{Ranking, admits_null, code_part, code_parts, codes_where, group_cond, kind_better, of_candidate, of_rival, ranking_of, same_column}
 use Rattle.rewritten_query.specs.Columns.{number_among, rank_column}
 use Rattle.rewritten_query.proofs.ConditionReads.{put, put-And, put-Or, put-Not, put-Compare, put-Between, put-OneOf, put-IsNull, put-Top}
-use Rattle.rewritten_query.proofs.RankingReads.{better-Pareto, better-Prior, ranking_of-Leaf, same-Pareto, same-Prior}
+use Rattle.rewritten_query.proofs.RankingReads.{better-Pareto, better-Prior, better-Dual, worse-Pareto, worse-Prior, worse-Dual, ranking_of-Leaf, same-Pareto, same-Prior, same-Dual}
 use Rattle.written_query_validity.proofs.Depths.{cond_depth, depth-And, depth-Between, depth-Column, depth-Compare, depth-IsNull, depth-Not, depth-OneOf, depth-Or, scalar_depth}
 use Rattle.written_query_validity.proofs.RankDepths.{IsShallow, Or_shallow, both_shallow, count_depth, deeper, deepest_along, deepest_map, either_shallow, wrapped_along, wrapped_more}
 
@@ -166,42 +166,45 @@ group_shallow places from place = group_shallow_by (number_among places place) (
 counts_depth : (codes : List ℕ) (s : SqlScalar) → Among (map number codes) s → scalar_depth s ≤ 0
 counts_depth codes s there = let found = among_map number codes s there in subst (λ t. scalar_depth t ≤ 0) found.2 (omega (arith, count_depth found.0))
 
-code_part_shallow : (edges : List Edge) (k n : ℕ) (v : Value) → IsShallow 2 (code_part edges k n v)
-code_part_shallow edges k n v =
-    let codes = codes_where (is_above edges v) 1 (graph_values edges) in
-    let list = number 0 ∷ map number codes in
-    let inner = deepest_map scalar_depth list 0 (λ s there. elim there [
-      | inl same ↦ subst (λ t. scalar_depth t ≤ 0) same (omega (arith, count_depth 0))
-      | inr more ↦ counts_depth codes s more
-    ]) in
-    let among : IsShallow 1 (sql.OneOf false (of_candidate k) list) = (λ standing. omega (arith, depth-OneOf false (of_candidate k) list standing, column_up_depth 1 k, inner)) in
-    both_shallow 1 _ _ (deeper 0 1 _ (omega arith) (compared_shallow Eq (of_rival k) (number n) (column_up_depth 0 k) (count_depth n))) among
+-- of two queries' columns, whichever is the upper one
+module _ (u l : ℕ) where
+  code_part_shallow : (edges : List Edge) (k n : ℕ) (v : Value) → IsShallow 2 (code_part (column_up u) (column_up l) edges k n v)
+  code_part_shallow edges k n v =
+      let codes = codes_where (is_above edges v) 1 (graph_values edges) in
+      let list = number 0 ∷ map number codes in
+      let inner = deepest_map scalar_depth list 0 (λ s there. elim there [
+        | inl same ↦ subst (λ t. scalar_depth t ≤ 0) same (omega (arith, count_depth 0))
+        | inr more ↦ counts_depth codes s more
+      ]) in
+      let among : IsShallow 1 (sql.OneOf false (column_up l k) list) = (λ standing. omega (arith, depth-OneOf false (column_up l k) list standing, column_up_depth l k, inner)) in
+      both_shallow 1 _ _ (deeper 0 1 _ (omega arith) (compared_shallow Eq (column_up u k) (number n) (column_up_depth u k) (count_depth n))) among
 
-code_parts_shallow : (edges : List Edge) (k n : ℕ) (values : List Value) (c : SqlCond) → Among (code_parts edges k n values) c → IsShallow 2 c
-code_parts_shallow edges k n [] c there = absurd there
-code_parts_shallow edges k n (v ∷ values) c (inl same) = subst (IsShallow 2) same (code_part_shallow edges k n v)
-code_parts_shallow edges k n (v ∷ values) c (inr more) = code_parts_shallow edges k (n + 1) values c more
+  code_parts_shallow : (edges : List Edge) (k n : ℕ) (values : List Value) (c : SqlCond) → Among (code_parts (column_up u) (column_up l) edges k n values) c → IsShallow 2 c
+  code_parts_shallow edges k n [] c there = absurd there
+  code_parts_shallow edges k n (v ∷ values) c (inl same) = subst (IsShallow 2) same (code_part_shallow edges k n v)
+  code_parts_shallow edges k n (v ∷ values) c (inr more) = code_parts_shallow edges k (n + 1) values c more
 
-lt_shallow : (op : CompareOp) (k : ℕ) → IsShallow 3 (sql.Compare op (of_rival k) (of_candidate k))
-lt_shallow op k = deeper 0 3 _ (omega arith) (duel_shallow op k)
+  lt_shallow : (op : CompareOp) (k : ℕ) → IsShallow 3 (sql.Compare op (column_up u k) (column_up l k))
+  lt_shallow op k = deeper 0 3 _ (omega arith) (compared_shallow op (column_up u k) (column_up l k) (column_up_depth u k) (column_up_depth l k))
 
-kind_shallow : (kind : Kind) (k : ℕ) → IsShallow 3 (kind_better kind k)
-kind_shallow (Explicit g) k = Or_shallow 2 (code_parts g.edges (k + 1) 1 (graph_values g.edges)) (code_parts_shallow g.edges (k + 1) 1 (graph_values g.edges))
-kind_shallow (Pos s) k = lt_shallow Lt k
-kind_shallow (Neg s) k = lt_shallow Lt k
-kind_shallow (PosPos s t) k = lt_shallow Lt k
-kind_shallow (PosNeg s t) k = lt_shallow Lt k
-kind_shallow (Layered before after) k = lt_shallow Lt k
-kind_shallow (Around z) k = lt_shallow Lt k
-kind_shallow (Between low up) k = lt_shallow Lt k
-kind_shallow Lowest k = lt_shallow Lt k
-kind_shallow Highest k = lt_shallow Gt k
+  kind_shallow : (kind : Kind) (k : ℕ) → IsShallow 3 (kind_better (column_up u) (column_up l) kind k)
+  kind_shallow (Explicit g) k = Or_shallow 2 (code_parts (column_up u) (column_up l) g.edges (k + 1) 1 (graph_values g.edges)) (code_parts_shallow g.edges (k + 1) 1 (graph_values g.edges))
+  kind_shallow (Pos s) k = lt_shallow Lt k
+  kind_shallow (Neg s) k = lt_shallow Lt k
+  kind_shallow (PosPos s t) k = lt_shallow Lt k
+  kind_shallow (PosNeg s t) k = lt_shallow Lt k
+  kind_shallow (Layered before after) k = lt_shallow Lt k
+  kind_shallow (Around z) k = lt_shallow Lt k
+  kind_shallow (Between low up) k = lt_shallow Lt k
+  kind_shallow Lowest k = lt_shallow Lt k
+  kind_shallow Highest k = lt_shallow Gt k
 
 module _ (places : List ColumnPlace) (leaves : List Leaf) where
   -- each leaf adds three at most, to one leaf or more
   record IsRankingShallow (t : Term) : Type 0 where
     some : 1 ≤ length (leaves_of t)
     better : IsShallow (3 * length (leaves_of t)) (ranking_of places leaves t).better
+    worse : IsShallow (3 * length (leaves_of t)) (ranking_of places leaves t).worse
     same : IsShallow (3 * length (leaves_of t)) (ranking_of places leaves t).same
 
   at : (n m : ℕ) (a b : SqlCond) → a ≡ b → n ≤ m → IsShallow n b → IsShallow m a
@@ -213,7 +216,8 @@ module _ (places : List ColumnPlace) (leaves : List Leaf) where
       let is = ranking_of-Leaf places leaves leaf in
       record {
         some = omega (arith, one);
-        better = at 3 _ _ _ (ap (λ (r : Ranking). r.better) is) (omega (arith, one)) (kind_shallow leaf.base (rank_column places leaves leaf.number));
+        better = at 3 _ _ _ (ap (λ (r : Ranking). r.better) is) (omega (arith, one)) (kind_shallow 0 1 leaf.base (rank_column places leaves leaf.number));
+        worse = at 3 _ _ _ (ap (λ (r : Ranking). r.worse) is) (omega (arith, one)) (kind_shallow 1 0 leaf.base (rank_column places leaves leaf.number));
         same = at 0 _ _ _ (ap (λ (r : Ranking). r.same) is) (omega (arith, one)) (duel_shallow Eq (same_column places leaves leaf));
       }
 
@@ -232,6 +236,11 @@ module _ (places : List ColumnPlace) (leaves : List Leaf) where
             (either_shallow (n + 1 + 1) _ _
             (both_shallow (n + 1) _ _ (deeper (3 * a) (n + 1) _ (omega arith) p_is.better) (either_shallow n _ _ (deeper (3 * b) n _ (omega arith) q_is.better) (deeper (3 * b) n _ (omega arith) q_is.same)))
             (both_shallow (n + 1) _ _ (deeper (3 * a) (n + 1) _ (omega arith) p_is.same) (deeper (3 * b) (n + 1) _ (omega arith) q_is.better)));
+        worse =
+            at (n + 1 + 1 + 1) _ _ _ (worse-Pareto places leaves p q) (omega (arith, size, some, also))
+            (either_shallow (n + 1 + 1) _ _
+            (both_shallow (n + 1) _ _ (deeper (3 * a) (n + 1) _ (omega arith) p_is.worse) (either_shallow n _ _ (deeper (3 * b) n _ (omega arith) q_is.worse) (deeper (3 * b) n _ (omega arith) q_is.same)))
+            (both_shallow (n + 1) _ _ (deeper (3 * a) (n + 1) _ (omega arith) p_is.same) (deeper (3 * b) (n + 1) _ (omega arith) q_is.worse)));
         same = at (n + 1) _ _ _ (same-Pareto places leaves p q) (omega (arith, size, some, also)) (both_shallow n _ _ (deeper (3 * a) n _ (omega arith) p_is.same) (deeper (3 * b) n _ (omega arith) q_is.same));
       }
 
@@ -248,8 +257,23 @@ module _ (places : List ColumnPlace) (leaves : List Leaf) where
         better =
             at (n + 1 + 1) _ _ _ (better-Prior places leaves p q) (omega (arith, size, some, also))
             (either_shallow (n + 1) _ _ (deeper (3 * a) (n + 1) _ (omega arith) p_is.better) (both_shallow n _ _ (deeper (3 * a) n _ (omega arith) p_is.same) (deeper (3 * b) n _ (omega arith) q_is.better)));
+        worse =
+            at (n + 1 + 1) _ _ _ (worse-Prior places leaves p q) (omega (arith, size, some, also))
+            (either_shallow (n + 1) _ _ (deeper (3 * a) (n + 1) _ (omega arith) p_is.worse) (both_shallow n _ _ (deeper (3 * a) n _ (omega arith) p_is.same) (deeper (3 * b) n _ (omega arith) q_is.worse)));
         same = at (n + 1) _ _ _ (same-Prior places leaves p q) (omega (arith, size, some, also)) (both_shallow n _ _ (deeper (3 * a) n _ (omega arith) p_is.same) (deeper (3 * b) n _ (omega arith) q_is.same));
       }
 
+  dual_shallow : (p : Term) → IsRankingShallow p → IsRankingShallow (Dual p)
+  dual_shallow p p_is =
+      let size = ap length (leaves_of-Dual p) in
+      let n = 3 * length (leaves_of p) in
+      let some = p_is.some in
+      record {
+        some = omega (arith, size, some);
+        better = at n _ _ _ (better-Dual places leaves p) (omega (arith, size)) p_is.worse;
+        worse = at n _ _ _ (worse-Dual places leaves p) (omega (arith, size)) p_is.better;
+        same = at n _ _ _ (same-Dual places leaves p) (omega (arith, size)) p_is.same;
+      }
+
   pub better_shallow : (t : Term) → IsShallow (3 * length (leaves_of t)) (ranking_of places leaves t).better
-  better_shallow t = (term_induction IsRankingShallow leaf_shallow pareto_shallow prior_shallow t).better
+  better_shallow t = (term_induction IsRankingShallow leaf_shallow pareto_shallow prior_shallow dual_shallow t).better

@@ -35,7 +35,7 @@ use Rattle.rewritten_query.specs.Leaves.{cases, code_scalar, code_whens, greates
 use Rattle.rewritten_query.specs.Rankings.{Ranking, admits_null, code_part, code_parts, codes_where, group_cond, kind_better, leaf_ranking, of_candidate, of_rival, ranking_of, same_column}
 use Rattle.rewritten_query.specs.Columns.{number_among, rank_column}
 use Rattle.rewritten_query.proofs.ConditionReads.{put, put-And, put-Or, put-Not, put-Compare, put-Between, put-OneOf, put-IsNull, put-Top}
-use Rattle.rewritten_query.proofs.RankingReads.{better-Pareto, better-Prior, ranking_of-Leaf, same-Pareto, same-Prior}
+use Rattle.rewritten_query.proofs.RankingReads.{better-Pareto, better-Prior, better-Dual, worse-Pareto, worse-Prior, worse-Dual, ranking_of-Leaf, same-Pareto, same-Prior, same-Dual}
 use Rattle.sql_tree.proofs.PartTables.{tables-And, tables-Between, tables-Case, tables-Chars, tables-Column, tables-Compare, tables-IsNull, tables-Not, tables-Number, tables-OneOf, tables-Or, tables-Sum, tables-term, tables-when}
 
 module _ (G : SqlTable → Type 0) where
@@ -260,36 +260,43 @@ module _ (G : SqlTable → Type 0) where
   numbers_in codes b (inl is) = subst InScalar is (number_in 0)
   numbers_in codes b (inr more) = mapped_in InScalar number codes number_in b more
 
-  code_part_in : (edges : List Edge) (k n : ℕ) (v : Value) → InCond (code_part edges k n v)
-  code_part_in edges k n v =
-      let codes = codes_where (is_above edges v) 1 (graph_values edges) in
-      both_in _ _ (compare_in Eq (of_rival k) (number n) (rival_in k) (number_in n)) (one_of_in false (of_candidate k) (number 0 ∷ map number codes) (candidate_in k) (numbers_in codes))
+  -- of two columns, whichever is the upper one
+  module _ (upper lower : ℕ → SqlScalar) (upper_in : (k : ℕ) → InScalar (upper k)) (lower_in : (k : ℕ) → InScalar (lower k)) where
+    code_part_in : (edges : List Edge) (k n : ℕ) (v : Value) → InCond (code_part upper lower edges k n v)
+    code_part_in edges k n v =
+        let codes = codes_where (is_above edges v) 1 (graph_values edges) in
+        both_in _ _ (compare_in Eq (upper k) (number n) (upper_in k) (number_in n)) (one_of_in false (lower k) (number 0 ∷ map number codes) (lower_in k) (numbers_in codes))
 
-  code_parts_in : (edges : List Edge) (k n : ℕ) (values : List Value) (c : SqlCond) → Among (code_parts edges k n values) c → InCond c
-  code_parts_in edges k n [] c there = absurd there
-  code_parts_in edges k n (v ∷ values) c (inl is) = subst InCond is (code_part_in edges k n v)
-  code_parts_in edges k n (v ∷ values) c (inr more) = code_parts_in edges k (n + 1) values c more
+    code_parts_in : (edges : List Edge) (k n : ℕ) (values : List Value) (c : SqlCond) → Among (code_parts upper lower edges k n values) c → InCond c
+    code_parts_in edges k n [] c there = absurd there
+    code_parts_in edges k n (v ∷ values) c (inl is) = subst InCond is (code_part_in edges k n v)
+    code_parts_in edges k n (v ∷ values) c (inr more) = code_parts_in edges k (n + 1) values c more
 
-  kind_in : (kind : Kind) (k : ℕ) → InCond (kind_better kind k)
-  kind_in (Explicit g) k = or_in (code_parts g.edges (k + 1) 1 (graph_values g.edges)) (code_parts_in g.edges (k + 1) 1 (graph_values g.edges))
-  kind_in (Pos s) k = compared Lt k
-  kind_in (Neg s) k = compared Lt k
-  kind_in (PosPos s t) k = compared Lt k
-  kind_in (PosNeg s t) k = compared Lt k
-  kind_in (Layered before after) k = compared Lt k
-  kind_in (Around z) k = compared Lt k
-  kind_in (Between low up) k = compared Lt k
-  kind_in Lowest k = compared Lt k
-  kind_in Highest k = compared Gt k
+    kind_in : (kind : Kind) (k : ℕ) → InCond (kind_better upper lower kind k)
+    kind_in (Explicit g) k = or_in (code_parts upper lower g.edges (k + 1) 1 (graph_values g.edges)) (code_parts_in g.edges (k + 1) 1 (graph_values g.edges))
+    kind_in (Pos s) k = compare_in Lt (upper k) (lower k) (upper_in k) (lower_in k)
+    kind_in (Neg s) k = compare_in Lt (upper k) (lower k) (upper_in k) (lower_in k)
+    kind_in (PosPos s t) k = compare_in Lt (upper k) (lower k) (upper_in k) (lower_in k)
+    kind_in (PosNeg s t) k = compare_in Lt (upper k) (lower k) (upper_in k) (lower_in k)
+    kind_in (Layered before after) k = compare_in Lt (upper k) (lower k) (upper_in k) (lower_in k)
+    kind_in (Around z) k = compare_in Lt (upper k) (lower k) (upper_in k) (lower_in k)
+    kind_in (Between low up) k = compare_in Lt (upper k) (lower k) (upper_in k) (lower_in k)
+    kind_in Lowest k = compare_in Lt (upper k) (lower k) (upper_in k) (lower_in k)
+    kind_in Highest k = compare_in Gt (upper k) (lower k) (upper_in k) (lower_in k)
 
-  -- both conditions of a term
+  -- the conditions of a term
   record InRanking (ranking : Ranking) : Type 0 where
     better : InCond ranking.better
+    worse : InCond ranking.worse
     same : InCond ranking.same
 
   module _ (places : List ColumnPlace) (leaves : List Leaf) where
     leaf_in : (leaf : Leaf) → InRanking (leaf_ranking places leaves leaf)
-    leaf_in leaf = record { better = kind_in leaf.base (rank_column places leaves leaf.number); same = compared Eq (same_column places leaves leaf) }
+    leaf_in leaf = record {
+      better = kind_in of_rival of_candidate rival_in candidate_in leaf.base (rank_column places leaves leaf.number);
+      worse = kind_in of_candidate of_rival candidate_in rival_in leaf.base (rank_column places leaves leaf.number);
+      same = compared Eq (same_column places leaves leaf);
+    }
 
     abbrev IsTermIn : Term → Type 0
     IsTermIn t = InRanking (ranking_of places leaves t)
@@ -301,11 +308,20 @@ module _ (G : SqlTable → Type 0) where
           better =
               subst InCond (sym (better-Pareto places leaves p q))
               (either_in _ _ (both_in _ _ first.better (either_in _ _ second.better second.same)) (both_in _ _ first.same second.better));
+          worse =
+              subst InCond (sym (worse-Pareto places leaves p q))
+              (either_in _ _ (both_in _ _ first.worse (either_in _ _ second.worse second.same)) (both_in _ _ first.same second.worse));
           same = subst InCond (sym (same-Pareto places leaves p q)) (both_in _ _ first.same second.same);
         })
         (λ p q first second. record {
           better = subst InCond (sym (better-Prior places leaves p q)) (either_in _ _ first.better (both_in _ _ first.same second.better));
+          worse = subst InCond (sym (worse-Prior places leaves p q)) (either_in _ _ first.worse (both_in _ _ first.same second.worse));
           same = subst InCond (sym (same-Prior places leaves p q)) (both_in _ _ first.same second.same);
+        })
+        (λ p inner. record {
+          better = subst InCond (sym (better-Dual places leaves p)) inner.worse;
+          worse = subst InCond (sym (worse-Dual places leaves p)) inner.better;
+          same = subst InCond (sym (same-Dual places leaves p)) inner.same;
         })
 
     pub better_in : (t : Term) → InCond (ranking_of places leaves t).better

@@ -18,7 +18,7 @@ use Rattle.base_prefs.specs.declared.edge.Edge.{Edge}
 use Rattle.base_prefs.specs.declared.kind.Kind.{Kind}
 use Rattle.base_prefs.specs.declared.kind.Kind.TheVariants.{Pos, Neg, PosPos, PosNeg, Layered, Explicit, Around, Between, Lowest, Highest}
 use Rattle.base_prefs.proofs.GraphLevels.{two_values}
-use Rattle.pref_terms.specs.Equations.{leaves_of-Leaf, leaves_of-Pareto, leaves_of-Prior}
+use Rattle.pref_terms.specs.Equations.{leaves_of-Leaf, leaves_of-Pareto, leaves_of-Prior, leaves_of-Dual}
 use Rattle.pref_terms.specs.Induction.{term_induction}
 use Rattle.pref_terms.specs.Terms.{leaves_of}
 use Rattle.pref_terms.specs.declared.term.Leaf.{Leaf}
@@ -27,13 +27,14 @@ use Rattle.query_meaning.specs.declared.block.FromTable.{FromTable}
 use Rattle.sql_tree.specs.declared.tree.SqlCond.{SqlCond, And, Or, Compare, IsNull}
 use Rattle.sql_tree.specs.declared.tree.SqlPlace.{SqlPlace}
 use Rattle.sql_tree.specs.declared.tree.SqlScalar as sql
+use Rattle.sql_tree.specs.declared.tree.SqlScalar.{SqlScalar}
 use Rattle.sql_tree.specs.Shown.{ShownColumn, ShownItem, View, column_at, number_shape}
 use Rattle.sql_tree.specs.WellFormed.{JudgedScalar, judged_cond}
 use Rattle.rewritten_query.specs.Columns.{code_items, number_among, rank_column}
 use Rattle.rewritten_query.specs.Leaves.{number}
 use Rattle.rewritten_query.specs.Names.{candidates_name, column_up, rivals_name}
 use Rattle.rewritten_query.specs.Rankings.{Ranking, admits_null, code_part, code_parts, codes_where, group_cond, kind_better, leaf_ranking, of_candidate, of_rival, ranking_of, same_column}
-use Rattle.rewritten_query.proofs.RankingReads.{better-Pareto, better-Prior, ranking_of-Leaf, same-Pareto, same-Prior}
+use Rattle.rewritten_query.proofs.RankingReads.{better-Pareto, better-Prior, better-Dual, worse-Pareto, worse-Prior, worse-Dual, ranking_of-Leaf, same-Pareto, same-Prior, same-Dual}
 use Rattle.written_query_validity.proofs.Formed.{Compare_formed, Formed, IsNull_formed, IsOf, OneOf_formed, Or_formed, both_formed, count_of, either_formed}
 use Rattle.written_query_validity.proofs.Judgements.{judged-Column}
 use Rattle.written_query_validity.proofs.Names.{ColumnsDiffer, lettered_number, told_once}
@@ -127,50 +128,55 @@ module _ (writing : Bool) (columns : List ShownColumn) (apart : ColumnsDiffer co
       by true (inr more) rest = (let small = rest more in omega (arith, small))
       by false more rest = (let small = rest more in omega (arith, small))
 
-  code_part_formed : (edges : List Edge) (k n : ℕ) (v : Value) → k < length columns → domain_at k ≡ Integer → n < 10 ^ 18 → length (graph_values edges) ≤ 16 → IsDuel (code_part edges k n v)
-  code_part_formed edges k n v within numbers small few =
-      let view = rivals_view columns in
-      let codes = codes_where (is_above edges v) 1 (graph_values edges) in
-      let rival = subst (λ d. IsOf writing view d (of_rival k)) numbers (rival_column_of k within) in
-      let candidate = subst (λ d. IsOf writing view d (of_candidate k)) numbers (candidate_column_of k within) in
-      both_formed writing view _ _
-      (Compare_formed writing view Eq Integer (of_rival k) (number n) rival (count_of writing view n small))
-      (OneOf_formed writing view false Integer (of_candidate k) (number 0 ∷ map number codes) candidate (omega arith)
-      (λ b there. elim there [
-        | inl is ↦ subst (IsOf writing view Integer) is (count_of writing view 0 (omega arith))
-        | inr more ↦
-            let found = among_map number codes b more in
-            let code = codes_small (is_above edges v) 1 (graph_values edges) found.0 found.1 in
-            subst (IsOf writing view Integer) found.2 (count_of writing view found.0 (omega (arith, code, few)))
-      ]))
+  -- of two columns, whichever is the upper one
+  module _ (upper lower : ℕ → SqlScalar) (upper_of : (k : ℕ) → k < length columns → IsOf writing (rivals_view columns) (domain_at k) (upper k)) (lower_of : (k : ℕ) → k < length columns → IsOf writing (rivals_view columns) (domain_at k) (lower k)) where
+    ordered : (op : CompareOp) (k : ℕ) → k < length columns → IsDuel (Compare op (upper k) (lower k))
+    ordered op k within = Compare_formed writing (rivals_view columns) op (domain_at k) (upper k) (lower k) (upper_of k within) (lower_of k within)
 
-  code_parts_formed : (edges : List Edge) (k n : ℕ) (values : List Value) → k < length columns → domain_at k ≡ Integer → n + length values < 10 ^ 18 → length (graph_values edges) ≤ 16
-      → (c : SqlCond) → Among (code_parts edges k n values) c → IsDuel c
-  code_parts_formed edges k n [] within numbers small few c there = absurd there
-  code_parts_formed edges k n (v ∷ values) within numbers small few c (inl is) =
-      ap (λ part. judged_cond writing part (rivals_view columns)) (sym is) ∙ code_part_formed edges k n v within numbers (omega (arith, small)) few
-  code_parts_formed edges k n (v ∷ values) within numbers small few c (inr more) = code_parts_formed edges k (n + 1) values within numbers (omega (arith, small)) few c more
+    code_part_formed : (edges : List Edge) (k n : ℕ) (v : Value) → k < length columns → domain_at k ≡ Integer → n < 10 ^ 18 → length (graph_values edges) ≤ 16 → IsDuel (code_part upper lower edges k n v)
+    code_part_formed edges k n v within numbers small few =
+        let view = rivals_view columns in
+        let codes = codes_where (is_above edges v) 1 (graph_values edges) in
+        let rival = subst (λ d. IsOf writing view d (upper k)) numbers (upper_of k within) in
+        let candidate = subst (λ d. IsOf writing view d (lower k)) numbers (lower_of k within) in
+        both_formed writing view _ _
+        (Compare_formed writing view Eq Integer (upper k) (number n) rival (count_of writing view n small))
+        (OneOf_formed writing view false Integer (lower k) (number 0 ∷ map number codes) candidate (omega arith)
+        (λ b there. elim there [
+          | inl is ↦ subst (IsOf writing view Integer) is (count_of writing view 0 (omega arith))
+          | inr more ↦
+              let found = among_map number codes b more in
+              let code = codes_small (is_above edges v) 1 (graph_values edges) found.0 found.1 in
+              subst (IsOf writing view Integer) found.2 (count_of writing view found.0 (omega (arith, code, few)))
+        ]))
 
-  code_parts_length : (edges : List Edge) (k n : ℕ) (values : List Value) → length (code_parts edges k n values) ≡ length values
-  code_parts_length edges k n [] = refl
-  code_parts_length edges k n (v ∷ values) = ap suc (code_parts_length edges k (n + 1) values)
+    code_parts_formed : (edges : List Edge) (k n : ℕ) (values : List Value) → k < length columns → domain_at k ≡ Integer → n + length values < 10 ^ 18 → length (graph_values edges) ≤ 16
+        → (c : SqlCond) → Among (code_parts upper lower edges k n values) c → IsDuel c
+    code_parts_formed edges k n [] within numbers small few c there = absurd there
+    code_parts_formed edges k n (v ∷ values) within numbers small few c (inl is) =
+        ap (λ part. judged_cond writing part (rivals_view columns)) (sym is) ∙ code_part_formed edges k n v within numbers (omega (arith, small)) few
+    code_parts_formed edges k n (v ∷ values) within numbers small few c (inr more) = code_parts_formed edges k (n + 1) values within numbers (omega (arith, small)) few c more
 
-  kind_formed : (kind : Kind) (place : ColumnPlace) (n k : ℕ) → IsSound kind → k + suc (length (code_items kind place n)) ≤ length columns → (k + 1 < length columns → domain_at (k + 1) ≡ Integer) → IsDuel (kind_better kind k)
-  kind_formed (Explicit g) place n k sound within numbers =
-      let two = two_values g.edges g.acyclic sound.some in
-      let parts = code_parts_length g.edges (k + 1) 1 (graph_values g.edges) in
-      let next : k + 1 < length columns = omega (arith, within) in
-      Or_formed writing (rivals_view columns) (code_parts g.edges (k + 1) 1 (graph_values g.edges)) (omega (arith, two, parts))
-      (code_parts_formed g.edges (k + 1) 1 (graph_values g.edges) next (numbers next) (omega (arith, sound.few)) sound.few)
-  kind_formed (Pos s) place n k sound within numbers = compared Lt k (omega (arith, within))
-  kind_formed (Neg s) place n k sound within numbers = compared Lt k (omega (arith, within))
-  kind_formed (PosPos s t) place n k sound within numbers = compared Lt k (omega (arith, within))
-  kind_formed (PosNeg s t) place n k sound within numbers = compared Lt k (omega (arith, within))
-  kind_formed (Layered before after) place n k sound within numbers = compared Lt k (omega (arith, within))
-  kind_formed (Around z) place n k sound within numbers = compared Lt k (omega (arith, within))
-  kind_formed (Between low up) place n k sound within numbers = compared Lt k (omega (arith, within))
-  kind_formed Lowest place n k sound within numbers = compared Lt k (omega (arith, within))
-  kind_formed Highest place n k sound within numbers = compared Gt k (omega (arith, within))
+    code_parts_length : (edges : List Edge) (k n : ℕ) (values : List Value) → length (code_parts upper lower edges k n values) ≡ length values
+    code_parts_length edges k n [] = refl
+    code_parts_length edges k n (v ∷ values) = ap suc (code_parts_length edges k (n + 1) values)
+
+    kind_formed : (kind : Kind) (place : ColumnPlace) (n k : ℕ) → IsSound kind → k + suc (length (code_items kind place n)) ≤ length columns → (k + 1 < length columns → domain_at (k + 1) ≡ Integer) → IsDuel (kind_better upper lower kind k)
+    kind_formed (Explicit g) place n k sound within numbers =
+        let two = two_values g.edges g.acyclic sound.some in
+        let parts = code_parts_length g.edges (k + 1) 1 (graph_values g.edges) in
+        let next : k + 1 < length columns = omega (arith, within) in
+        Or_formed writing (rivals_view columns) (code_parts upper lower g.edges (k + 1) 1 (graph_values g.edges)) (omega (arith, two, parts))
+        (code_parts_formed g.edges (k + 1) 1 (graph_values g.edges) next (numbers next) (omega (arith, sound.few)) sound.few)
+    kind_formed (Pos s) place n k sound within numbers = ordered Lt k (omega (arith, within))
+    kind_formed (Neg s) place n k sound within numbers = ordered Lt k (omega (arith, within))
+    kind_formed (PosPos s t) place n k sound within numbers = ordered Lt k (omega (arith, within))
+    kind_formed (PosNeg s t) place n k sound within numbers = ordered Lt k (omega (arith, within))
+    kind_formed (Layered before after) place n k sound within numbers = ordered Lt k (omega (arith, within))
+    kind_formed (Around z) place n k sound within numbers = ordered Lt k (omega (arith, within))
+    kind_formed (Between low up) place n k sound within numbers = ordered Lt k (omega (arith, within))
+    kind_formed Lowest place n k sound within numbers = ordered Lt k (omega (arith, within))
+    kind_formed Highest place n k sound within numbers = ordered Gt k (omega (arith, within))
 
   -- ---- the better and same conditions of a term
 
@@ -191,11 +197,13 @@ module _ (writing : Bool) (columns : List ShownColumn) (apart : ColumnsDiffer co
 
     record IsFormedRanking (ranking : Ranking) : Type 0 where
       better : IsDuel ranking.better
+      worse : IsDuel ranking.worse
       same : IsDuel ranking.same
 
     leaf_formed : (leaf : Leaf) → HasColumns leaf → IsFormedRanking (leaf_ranking places leaves leaf)
     leaf_formed leaf has = record {
-      better = kind_formed leaf.base leaf.place leaf.number (rank_column places leaves leaf.number) has.sound has.rank has.code;
+      better = kind_formed of_rival of_candidate rival_column_of candidate_column_of leaf.base leaf.place leaf.number (rank_column places leaves leaf.number) has.sound has.rank has.code;
+      worse = kind_formed of_candidate of_rival candidate_column_of rival_column_of leaf.base leaf.place leaf.number (rank_column places leaves leaf.number) has.sound has.rank has.code;
       same = compared Eq (same_column places leaves leaf) (same_within leaf has);
     }
 
@@ -219,6 +227,7 @@ module _ (writing : Bool) (columns : List ShownColumn) (apart : ColumnsDiffer co
         let second = q_is (λ leaf there. each leaf (subst (λ ls. Among ls leaf) (sym (leaves_of-Pareto p q)) (among_back (leaves_of p) (leaves_of q) leaf there))) in
         record {
           better = by_equal _ _ (better-Pareto places leaves p q) (either _ _ (both _ _ first.better (either _ _ second.better second.same)) (both _ _ first.same second.better));
+          worse = by_equal _ _ (worse-Pareto places leaves p q) (either _ _ (both _ _ first.worse (either _ _ second.worse second.same)) (both _ _ first.same second.worse));
           same = by_equal _ _ (same-Pareto places leaves p q) (both _ _ first.same second.same);
         })
         (λ p q p_is q_is each.
@@ -226,7 +235,15 @@ module _ (writing : Bool) (columns : List ShownColumn) (apart : ColumnsDiffer co
         let second = q_is (λ leaf there. each leaf (subst (λ ls. Among ls leaf) (sym (leaves_of-Prior p q)) (among_back (leaves_of p) (leaves_of q) leaf there))) in
         record {
           better = by_equal _ _ (better-Prior places leaves p q) (either _ _ first.better (both _ _ first.same second.better));
+          worse = by_equal _ _ (worse-Prior places leaves p q) (either _ _ first.worse (both _ _ first.same second.worse));
           same = by_equal _ _ (same-Prior places leaves p q) (both _ _ first.same second.same);
+        })
+        (λ p p_is each.
+        let inner = p_is (λ leaf there. each leaf (subst (λ ls. Among ls leaf) (sym (leaves_of-Dual p)) there)) in
+        record {
+          better = by_equal _ _ (better-Dual places leaves p) inner.worse;
+          worse = by_equal _ _ (worse-Dual places leaves p) inner.better;
+          same = by_equal _ _ (same-Dual places leaves p) inner.same;
         })
 
     pub better_formed : (t : Term) → ((leaf : Leaf) → Among (leaves_of t) leaf → HasColumns leaf) → IsDuel (ranking_of places leaves t).better

@@ -15,7 +15,7 @@ use Rattle.prefsql_values.specs.declared.value.Value.TheVariants.{Num, Str, Null
 use Rattle.prefsql_tables.specs.declared.place.ColumnPlace.{ColumnPlace}
 use Rattle.prefsql_tables.specs.declared.place.SortKey.{SortKey}
 use Rattle.order_laws.proofs.Members.{Among, Contains_from_among, among_back, among_either, among_filter, among_flat_mapped, among_from_Contains, among_front, among_kept, among_map, among_mapped, any_from, range_among}
-use Rattle.pref_terms.specs.Equations.{leaves_of-Leaf, leaves_of-Pareto, leaves_of-Prior}
+use Rattle.pref_terms.specs.Equations.{leaves_of-Leaf, leaves_of-Pareto, leaves_of-Prior, leaves_of-Dual}
 use Rattle.pref_terms.specs.Induction.{term_induction}
 use Rattle.pref_terms.specs.Parts.{leaves_left}
 use Rattle.pref_terms.specs.Terms.{leaves_of}
@@ -97,6 +97,7 @@ some_leaf = term_induction (λ t. 1 ≤ length (leaves_of t))
     (λ leaf. let count = ap length (leaves_of-Leaf leaf) in omega (arith, count))
     (λ p q p_some q_some. let count = ap length (leaves_of-Pareto p q) in let sum = length-append (leaves_of p) (leaves_of q) in omega (arith, count, sum, p_some))
     (λ p q p_some q_some. let count = ap length (leaves_of-Prior p q) in let sum = length-append (leaves_of p) (leaves_of q) in omega (arith, count, sum, p_some))
+    (λ p some. let count = ap length (leaves_of-Dual p) in omega (arith, count, some))
 
 leaf_items_some : (leaves : List Leaf) → length leaves ≤ length (flat_map leaf_items leaves)
 leaf_items_some [] = omega arith

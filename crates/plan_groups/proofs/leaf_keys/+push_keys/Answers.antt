@@ -1,6 +1,6 @@
 use Rattle.std.proofs.Common.{rules}
 use Rattle.pref_terms.specs.declared.term.Term.TheViews.{the_lemmas}
-use Rattle.pref_terms.proofs.Standings.{LeavesFit-Leaf, LeavesFit-Pareto_first, LeavesFit-Pareto_second, LeavesFit-Prior_first, LeavesFit-Prior_second}
+use Rattle.pref_terms.proofs.Standings.{LeavesFit-Leaf, LeavesFit-Pareto_first, LeavesFit-Pareto_second, LeavesFit-Prior_first, LeavesFit-Prior_second, LeavesFit-Dual}
 use Rattle.plan_groups.proofs.leaf_keys.+push_keys.Goals as goal
 
 pub leaf_key-requires : goal.leaf_key-requires
@@ -28,4 +28,10 @@ pub push_keys-requires-in-Prior-2 : goal.push_keys-requires-in-Prior-2
 push_keys-requires-in-Prior-2 t c = (
   search (rules, the_lemmas),
   rw c.get-in-Prior-2.ensures (LeavesFit-Prior_second c.args.bound.now.tables.now c.args.bound.now.from.now c.args.bound.now.first c.args.combo.now.rows c.args.term.now c.in-Prior.first c.in-Prior.second c.in-Prior.is c.requires),
+)
+
+pub push_keys-requires-in-Dual : goal.push_keys-requires-in-Dual
+push_keys-requires-in-Dual t c = (
+  search (rules, the_lemmas),
+  rw c.get-in-Dual.ensures (LeavesFit-Dual c.args.bound.now.tables.now c.args.bound.now.from.now c.args.bound.now.first c.args.combo.now.rows c.args.term.now c.in-Dual.inner c.in-Dual.is c.requires),
 )

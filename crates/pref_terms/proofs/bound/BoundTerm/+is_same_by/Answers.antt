@@ -1,6 +1,6 @@
 use Rattle.std.proofs.Common.{rules}
 use Rattle.pref_terms.specs.declared.term.Term.TheViews.{the_lemmas}
-use Rattle.pref_terms.proofs.Standings.{LeavesFit-Leaf, LeavesFit-Pareto_first, LeavesFit-Pareto_second, LeavesFit-Prior_first, LeavesFit-Prior_second}
+use Rattle.pref_terms.proofs.Standings.{LeavesFit-Leaf, LeavesFit-Pareto_first, LeavesFit-Pareto_second, LeavesFit-Prior_first, LeavesFit-Prior_second, LeavesFit-Dual}
 use Rattle.pref_terms.proofs.bound.BoundTerm.+is_same_by.Goals as goal
 
 pub is_same_by_leaf-requires-clause-a_fits : goal.is_same_by_leaf-requires-clause-a_fits
@@ -42,5 +42,14 @@ is_same_by-requires-then-is_same_by-2 t c = (
   (
     rw c.get-then-is_same_by-2.ensures (LeavesFit-Prior_second c.args.self.now.tables.now c.args.self.now.from.now c.args.self.now.first c.args.a.now.rows c.args.term.now c.in-Prior.first c.in-Prior.second c.in-Prior.is c.requires.a_fits),
     rw c.get-then-is_same_by-2.ensures (LeavesFit-Prior_second c.args.self.now.tables.now c.args.self.now.from.now c.args.self.now.first c.args.b.now.rows c.args.term.now c.in-Prior.first c.in-Prior.second c.in-Prior.is c.requires.b_fits),
+  ),
+)
+
+pub is_same_by-requires-in-Dual : goal.is_same_by-requires-in-Dual
+is_same_by-requires-in-Dual t c = (
+  search (rules, the_lemmas),
+  (
+    rw c.get-in-Dual.ensures (LeavesFit-Dual c.args.self.now.tables.now c.args.self.now.from.now c.args.self.now.first c.args.a.now.rows c.args.term.now c.in-Dual.inner c.in-Dual.is c.requires.a_fits),
+    rw c.get-in-Dual.ensures (LeavesFit-Dual c.args.self.now.tables.now c.args.self.now.from.now c.args.self.now.first c.args.b.now.rows c.args.term.now c.in-Dual.inner c.in-Dual.is c.requires.b_fits),
   ),
 )

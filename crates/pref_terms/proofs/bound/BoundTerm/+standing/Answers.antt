@@ -1,6 +1,6 @@
 use Rattle.std.proofs.Common.{rules, arith}
 use Rattle.pref_terms.specs.declared.term.Term.TheViews.{the_lemmas}
-use Rattle.pref_terms.proofs.Standings.{LeavesFit-Leaf, LeavesFit-Pareto_first, LeavesFit-Pareto_second, LeavesFit-Prior_first, LeavesFit-Prior_second, width-Pareto, width-Prior}
+use Rattle.pref_terms.proofs.Standings.{LeavesFit-Leaf, LeavesFit-Pareto_first, LeavesFit-Pareto_second, LeavesFit-Prior_first, LeavesFit-Prior_second, LeavesFit-Dual, width-Pareto, width-Prior}
 use Rattle.pref_terms.proofs.bound.BoundTerm.+standing.Goals as goal
 
 pub leaf_standing-requires-clause-a_fits : goal.leaf_standing-requires-clause-a_fits
@@ -77,3 +77,15 @@ returns-in-Better-standing-2-clause-most_steps g t c = omega (arith, rw c.get-in
 
 pub returns-in-Other-standing-2-clause-most_steps : goal.returns-in-Other-standing-2-clause-most_steps
 returns-in-Other-standing-2-clause-most_steps g t c = omega (arith, rw c.get-in-Prior.ensures at c.standing-in-Prior.ensures.most_steps, width-Prior c.args.term.now c.in-Prior.first c.in-Prior.second c.in-Prior.is)
+
+pub standing-requires-in-Dual : goal.standing-requires-in-Dual
+standing-requires-in-Dual g t c κs within = (
+  search (rules, the_lemmas),
+  (
+    within,
+    (
+      rw c.get-in-Dual.ensures (LeavesFit-Dual c.args.self.now.tables.now c.args.self.now.from.now c.args.self.now.first c.args.b.now.rows c.args.term.now c.in-Dual.inner c.in-Dual.is c.requires.b_fits),
+      rw c.get-in-Dual.ensures (LeavesFit-Dual c.args.self.now.tables.now c.args.self.now.from.now c.args.self.now.first c.args.a.now.rows c.args.term.now c.in-Dual.inner c.in-Dual.is c.requires.a_fits),
+    ),
+  ),
+)

@@ -2,7 +2,7 @@ use Rattle.std.proofs.Common.{rules, ap, sym, ◌∙◌}
 use Rattle.pref_terms.specs.declared.term.Term.TheViews.{the_lemmas}
 use Rattle.pref_terms.specs.declared.term.Term.{Term}
 use Rattle.pref_terms.specs.Terms.{key_order, shown}
-use Rattle.pref_terms.proofs.Standings.{first_decides, keys-Pareto, keys-Prior, second_decides, LeavesFit-Leaf, LeavesFit-Pareto_first, LeavesFit-Pareto_second, LeavesFit-Prior_first, LeavesFit-Prior_second}
+use Rattle.pref_terms.proofs.Standings.{first_decides, keys-Pareto, keys-Prior, keys-Dual, second_decides, LeavesFit-Leaf, LeavesFit-Pareto_first, LeavesFit-Pareto_second, LeavesFit-Prior_first, LeavesFit-Prior_second, LeavesFit-Dual}
 use Rattle.pref_terms.proofs.bound.BoundTerm.+term_keys.Goals as goal
 
 pub leaf_keys-requires-clause-a_fits : goal.leaf_keys-requires-clause-a_fits
@@ -80,3 +80,19 @@ returns-in_default-leading t c =
     let first = c.term_keys-leading.ensures ∙ ap (λ (u : Term). key_order u y x) c.get-in-Prior.ensures in
     first ∙ first_decides (key_order c.in-Prior.first y x) (key_order c.in-Prior.second y x) (λ equal. c.in_default-leading.not-Equal (first ∙ equal))
     ∙ sym (keys-Prior c.args.term.now c.in-Prior.first c.in-Prior.second c.in-Prior.is y x)
+
+pub term_keys-requires-in-Dual : goal.term_keys-requires-in-Dual
+term_keys-requires-in-Dual t c = (
+  search (rules, the_lemmas),
+  (
+    rw c.get-in-Dual.ensures (LeavesFit-Dual c.args.self.now.tables.now c.args.self.now.from.now c.args.self.now.first c.args.b.now.rows c.args.term.now c.in-Dual.inner c.in-Dual.is c.requires.b_fits),
+    rw c.get-in-Dual.ensures (LeavesFit-Dual c.args.self.now.tables.now c.args.self.now.from.now c.args.self.now.first c.args.a.now.rows c.args.term.now c.in-Dual.inner c.in-Dual.is c.requires.a_fits),
+  ),
+)
+
+pub returns-in-Dual : goal.returns-in-Dual
+returns-in-Dual t c =
+    let y = shown c.args.self.now.tables.now c.args.self.now.from.now c.args.self.now.first c.args.a.now in
+    let x = shown c.args.self.now.tables.now c.args.self.now.from.now c.args.self.now.first c.args.b.now in
+    c.term_keys-in-Dual.ensures ∙ ap (λ (u : Term). key_order u x y) c.get-in-Dual.ensures
+    ∙ sym (keys-Dual c.args.term.now c.in-Dual.inner c.in-Dual.is y x)

@@ -9,19 +9,22 @@ use Rattle.token_forms.specs.Reads.{with_front}
 use Rattle.preference_reader.proofs.reader.PreferenceReader.+preference.Given as goal
 
 abbrev pub decreases-preference : goal.decreases-preference
-decreases-preference l = 8 * l.self.depth + 5
+decreases-preference l = 8 * l.self.depth + 6
 
 abbrev pub decreases-cascade : goal.decreases-cascade
-decreases-cascade l = 8 * l.self.depth + 4
+decreases-cascade l = 8 * l.self.depth + 5
 
 abbrev pub decreases-pareto : goal.decreases-pareto
-decreases-pareto l = 8 * l.self.depth + 3
+decreases-pareto l = 8 * l.self.depth + 4
 
 abbrev pub decreases-primaries : goal.decreases-primaries
-decreases-primaries l = 8 * l.self.depth + 2
+decreases-primaries l = 8 * l.self.depth + 3
 
 abbrev pub decreases-primary : goal.decreases-primary
-decreases-primary l = 8 * l.self.depth + 1
+decreases-primary l = 8 * l.self.depth + 2
+
+abbrev pub decreases-preference_in_parens : goal.decreases-preference_in_parens
+decreases-preference_in_parens l = 8 * l.self.depth + 1
 
 abbrev pub decreases-nested_preference : goal.decreases-nested_preference
 decreases-nested_preference l = 8 * l.self.depth + 0
