@@ -15,7 +15,8 @@ use Rattle.plan_groups.specs.Jumps.{AddsLeaves, Tells, jumps_of, outcomes, shape
 use Rattle.plan_groups.specs.Outcomes.{TellsLeaf, leaf_outcome, standings, stands, turned_key}
 use Rattle.plan_groups.specs.Ranks.{turned_keys}
 use Rattle.plan_groups.specs.declared.jumps.RankedLeaf.{RankedLeaf}
-use Rattle.plan_groups.proofs.JumpLaws.{jumps_length, jumps-Leaf, jumps-Pareto, jumps-Prior, jumps-Dual, keys_length, keys_of-Leaf, keys_of-Pareto, keys_of-Prior, keys_of-Dual, standings-Leaf, standings-Pareto, standings-Prior, standings-Dual, width_is}
+use Rattle.plan_groups.proofs.KeyAdds.{length-turned_keys, turned_keys-append, turned_keys-not, turned-Leaf}
+use Rattle.plan_groups.proofs.JumpLaws.{jumps_length, jumps-Leaf, jumps-Pareto, jumps-Prior, jumps-Dual, keys_length, keys_of-Pareto, keys_of-Prior, keys_of-Dual, standings-Leaf, standings-Pareto, standings-Prior, standings-Dual, width_is}
 
 outcomes-append : (ls ms : List RankedLeaf) (xs ys us vs : List ℤ) (a b : ℕ) → length xs ≡ length ls → length ys ≡ length ls
     → outcomes (ls ++ ms) (xs ++ us) (ys ++ vs) a b ≡ outcomes ls xs ys a b ++ outcomes ms us vs a b
@@ -26,31 +27,6 @@ outcomes-append (l ∷ ls) ms [] ys us vs a b first second = absurd (omega (arit
 outcomes-append (l ∷ ls) ms (x ∷ xs) [] us vs a b first second = absurd (omega (arith, second))
 outcomes-append (l ∷ ls) ms (x ∷ xs) (y ∷ ys) us vs a b first second =
     ap (λ os. leaf_outcome l.test x y a b ∷ os) (outcomes-append ls ms xs ys us vs a b (omega (arith, first)) (omega (arith, second)))
-
-neg-neg : (k : ℤ) → neg_ℤ (neg_ℤ k) ≡ k
-neg-neg k = omega (arith, ints)
-
-negs-negs : (ks : List ℤ) → map neg_ℤ (map neg_ℤ ks) ≡ ks
-negs-negs [] = refl
-negs-negs (k ∷ ks) = λ j. neg-neg k j ∷ negs-negs ks j
-
--- keys that are turned, of one part and of two
-turned_keys-one : (turned : Bool) (k : ℤ) → turned_keys turned (k ∷ []) ≡ turned_key turned k ∷ []
-turned_keys-one true k = refl
-turned_keys-one false k = refl
-
-pub turned_keys-append : (turned : Bool) (ks ls : List ℤ) → turned_keys turned (ks ++ ls) ≡ turned_keys turned ks ++ turned_keys turned ls
-turned_keys-append true ks ls = map-append neg_ℤ ks ls
-turned_keys-append false ks ls = refl
-
-pub length-turned_keys : (turned : Bool) (ks : List ℤ) → length (turned_keys turned ks) ≡ length ks
-length-turned_keys true ks = length-map ks neg_ℤ
-length-turned_keys false ks = refl
-
--- keys that are turned twice
-pub turned_keys-not : (turned : Bool) (ks : List ℤ) → turned_keys turned (map neg_ℤ ks) ≡ turned_keys (not turned) ks
-turned_keys-not true ks = negs-negs ks
-turned_keys-not false ks = refl
 
 turned_standings-Leaf : (turned : Bool) (t : Term) (leaf : Leaf) → t ≡ term.Leaf leaf → (y x : Sight)
     → turned_standings turned t y x ≡ (if turned then stands x y leaf else stands y x leaf) ∷ []
@@ -75,8 +51,7 @@ module _ (bound : BoundTerm) (combos : List Combo) (turned : Bool) where
     is = put;
     jumps_are = ap (λ j. j ∷ []) same ∙ sym (jumps-Leaf t leaf is (length old) start skip);
     tells = λ a b a_row b_row.
-        (λ j. outcomes (ranked ∷ []) (turned_keys turned (keys_of-Leaf t leaf is (seen_at bound combos a) j)) (turned_keys turned (keys_of-Leaf t leaf is (seen_at bound combos b) j)) a b)
-        ∙ (λ j. outcomes (ranked ∷ []) (turned_keys-one turned (key_of leaf.base (seen_at bound combos a leaf.place)) j) (turned_keys-one turned (key_of leaf.base (seen_at bound combos b leaf.place)) j) a b)
+        (λ j. outcomes (ranked ∷ []) (turned-Leaf turned t leaf is (seen_at bound combos a) j) (turned-Leaf turned t leaf is (seen_at bound combos b) j) a b)
         ∙ ap (λ o. o ∷ []) (tells a b a_row b_row)
         ∙ sym (turned_standings-Leaf turned t leaf is (seen_at bound combos a) (seen_at bound combos b));
   }

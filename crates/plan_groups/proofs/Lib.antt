@@ -1,6 +1,7 @@
 pub mod GroupRuns
 pub mod GroupSteps
 pub mod JumpLaws
+pub mod KeyAdds
 pub mod Keys
 pub mod LeafAdds
 pub mod Marked

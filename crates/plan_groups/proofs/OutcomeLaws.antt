@@ -34,8 +34,8 @@ use Rattle.value_index.specs.Places.{are_equal, equal_places}
 use Rattle.value_index.proofs.Equal.{are_equal_is, equal_same}
 use Rattle.plan_groups.specs.Firsts.{first_equal, values_in}
 use Rattle.plan_groups.specs.Groups.{IsRow, row_at, seen_at, seen_by}
-use Rattle.plan_groups.specs.Outcomes.{TellsLeaf, graph_outcome, is_graph_better, outcome_by, share, stands}
-use Rattle.plan_groups.specs.declared.leaf_tests.LeafTest.TheVariants.{Keys, Values}
+use Rattle.plan_groups.specs.Outcomes.{TellsLeaf, graph_outcome, is_graph_better, outcome_by, share, stands, turned_key}
+use Rattle.plan_groups.specs.declared.leaf_tests.LeafTest.TheVariants.{Keys}
 use Rattle.pref_terms.specs.KeyLists.{int_cmp-neg}
 
 -- a judged value is not NULL
@@ -232,12 +232,14 @@ module _ (bound : BoundTerm) (combos : List Combo) (leaf : Leaf) (valid : IsTabl
       ap (λ s. ordering_then (int_cmp (key_of leaf.base (value_at a)) (key_of leaf.base (value_at b))) (outcome_by false s)) (share_values firsts are a b a_row.0 b_row.0)
       ∙ valued leaf.base leaf.trivial (value_at a) (value_at b) weak is
 
-  pub turned_values_tell : (turned : Bool) (firsts : Vec ℕ) → firsts.items ≡ map (first_equal values) values → is_explicit leaf.base ≡ false → leaf.trivial ≡ true
-      → TellsLeaf bound combos turned leaf (Values firsts)
+  pub turned_values_tell : (turned : Bool) (firsts : List ℕ) → firsts ≡ map (first_equal values) values → is_explicit leaf.base ≡ false → leaf.trivial ≡ true
+      → (a b : ℕ) → IsRow bound combos a → IsRow bound combos b
+      → ordering_then (int_cmp (turned_key turned (key_of leaf.base (value_at a))) (turned_key turned (key_of leaf.base (value_at b)))) (outcome_by false (share firsts a b))
+      ≡ (if turned then stands (seen_at bound combos b) (seen_at bound combos a) leaf else stands (seen_at bound combos a) (seen_at bound combos b) leaf)
   turned_values_tell true firsts are weak is a b a_row b_row =
-      (λ j. ordering_then (int_cmp-neg (key_of leaf.base (value_at a)) (key_of leaf.base (value_at b)) j) (outcome_by false (share_turned firsts.items a b j)))
-      ∙ values_tell firsts.items are weak is b a b_row a_row
-  turned_values_tell false firsts are weak is a b a_row b_row = values_tell firsts.items are weak is a b a_row b_row
+      (λ j. ordering_then (int_cmp-neg (key_of leaf.base (value_at a)) (key_of leaf.base (value_at b)) j) (outcome_by false (share_turned firsts a b j)))
+      ∙ values_tell firsts are weak is b a b_row a_row
+  turned_values_tell false firsts are weak is a b a_row b_row = values_tell firsts are weak is a b a_row b_row
 
   graph_tells : (places firsts : List ℕ) → places ≡ map (place_of (graph_values (edges_of leaf.base))) values → firsts ≡ map (first_equal values) values
       → is_explicit leaf.base ≡ true → (a b : ℕ) → IsRow bound combos a → IsRow bound combos b

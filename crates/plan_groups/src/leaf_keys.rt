@@ -7,6 +7,7 @@ ghost use Rattle.pref_terms.specs.Ranks.{is_highest};
 ghost use Rattle.pref_terms.specs.Terms.{keys_of};
 ghost use Rattle.plan_groups.specs.Groups.{seen_by};
 ghost use Rattle.plan_groups.specs.Groups as groups;
+ghost use Rattle.plan_groups.specs.Outcomes.{turned_key};
 ghost use Rattle.plan_groups.specs.Ranks.{keys_of_rows, turned_keys};
 
 use base_prefs::{BasePref, BaseView};
@@ -35,6 +36,7 @@ pub(crate) fn keys_of_rows(
 
 /// Adds the keys of the row by the leaves of the term, in their order, with their signs changed where
 /// the term is turned round.
+#[tactic(auto, using(crate::proofs::KeyAdds::key_adds))]
 fn push_keys(
     bound: &BoundTerm<'_>,
     term: &Term,
@@ -50,8 +52,7 @@ fn push_keys(
 {
     match term {
         Term::Leaf(leaf) => {
-            let key = leaf_key(bound, leaf, combo);
-            keys.push(if turned { -key } else { key })?;
+            keys.push(leaf_key(bound, leaf, turned, combo))?;
             Ok(())
         }
         Term::Pareto(first, second) => {
@@ -66,16 +67,18 @@ fn push_keys(
     }
 }
 
-/// The key of the row by the leaf.
+/// The key of the row by the leaf, with its sign changed where the leaf is turned.
 #[tactic(auto, using(pref_terms::proofs::Judged::fits_judged))]
-fn leaf_key(bound: &BoundTerm<'_>, leaf: &Leaf, combo: &Combo) -> i128
+fn leaf_key(bound: &BoundTerm<'_>, leaf: &Leaf, turned: bool, combo: &Combo) -> i128
     requires { LeafFits bound.now.tables.now bound.now.from.now bound.now.first combo.now.rows
         leaf.now }
-    ensures { result ≡ key_of leaf.now.base (seen_by bound.now combo.now leaf.now.place) }
+    ensures { result
+        ≡ turned_key turned (key_of leaf.now.base (seen_by bound.now combo.now leaf.now.place)) }
 {
     bound.tables.keeps_limits();
     let cell = cell_in_sight(leaf.place, bound.tables, bound.from, bound.first, combo);
-    value_key(&leaf.base, cell)
+    let key = value_key(&leaf.base, cell);
+    if turned { -key } else { key }
 }
 
 /// The key of a value: its level, its distance, its number for LOWEST or its negated number for

@@ -1,4 +1,10 @@
-use Rattle.std.proofs.Common.{rules}
+use Rattle.std.proofs.Common.{rules, not, ℤ, List, ◌++◌, sym, ap, ◌∙◌}
+use Rattle.std.proofs.lemmas.Result.{on_ok_weaker}
+use Rattle.pref_terms.specs.Terms.{keys_of}
+use Rattle.pref_terms.specs.declared.term.Term.{Term}
+use Rattle.plan_groups.specs.Groups.{seen_by}
+use Rattle.plan_groups.specs.Ranks.{turned_keys}
+use Rattle.plan_groups.proofs.KeyAdds.{turned-Dual}
 use Rattle.pref_terms.specs.declared.term.Term.TheViews.{the_lemmas}
 use Rattle.pref_terms.proofs.Standings.{LeavesFit-Leaf, LeavesFit-Pareto_first, LeavesFit-Pareto_second, LeavesFit-Prior_first, LeavesFit-Prior_second, LeavesFit-Dual}
 use Rattle.plan_groups.proofs.leaf_keys.+push_keys.Goals as goal
@@ -35,3 +41,12 @@ push_keys-requires-in-Dual t c = (
   search (rules, the_lemmas),
   rw c.get-in-Dual.ensures (LeavesFit-Dual c.args.bound.now.tables.now c.args.bound.now.from.now c.args.bound.now.first c.args.combo.now.rows c.args.term.now c.in-Dual.inner c.in-Dual.is c.requires),
 )
+
+pub returns-in-Dual : goal.returns-in-Dual
+returns-in-Dual t c =
+    let x = seen_by c.args.bound.now c.args.combo.now in
+    let old = c.args.keys.now.items in
+    on_ok_weaker c.push_keys-in-Dual.result (λ is.
+    is
+    ∙ ap (λ (p : Term). old ++ turned_keys (not c.args.turned) (keys_of p x)) c.get-in-Dual.ensures
+    ∙ ap (λ (ks : List ℤ). old ++ ks) (sym (turned-Dual c.args.turned c.args.term.now c.in-Dual.inner c.in-Dual.is x))) c.push_keys-in-Dual.ensures
