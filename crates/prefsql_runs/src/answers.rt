@@ -88,6 +88,36 @@ fn ids_of_cars(rt: HostRuntime) -> Result<(), Fail> {
             "WHERE dealer NOT IN ('north') PREFERRING LOWEST(price)",
             "ID\n3\n\n",
         ),
+        ("PREFERRING DUAL(LOWEST(price))", "ID\n5\n\n"),
+        (
+            "PREFERRING DUAL(LOWEST(price) AND HIGHEST(power))",
+            "ID\n5\n\n",
+        ),
+        (
+            "PREFERRING DUAL(color EXPLICIT ('red' > 'blue'))",
+            "ID\n4\n\n",
+        ),
+        (
+            "PREFERRING DUAL(color = 'red') CASCADE LOWEST(price)",
+            "ID\n2\n4\n\n",
+        ),
+        ("PREFERRING DUAL(DUAL(LOWEST(price)))", "ID\n2\n4\n\n"),
+        (
+            "PREFERRING DUAL(LOWEST(price) CASCADE HIGHEST(power))",
+            "ID\n5\n\n",
+        ),
+        (
+            "WHERE id >= 4 PREFERRING DUAL(color = 'red' AND LOWEST(price))",
+            "ID\n5\n\n",
+        ),
+        (
+            "WHERE id >= 4 PREFERRING DUAL(color = 'red' TRIVIAL AND LOWEST(price))",
+            "ID\n4\n5\n\n",
+        ),
+        (
+            "PREFERRING DUAL(price AROUND 40000) GROUPING dealer BUT ONLY DISTANCE(price) >= 2000",
+            "ID\n2\n3\n5\n\n",
+        ),
     ] {
         let script = format!(in alloc; "SELECT id FROM cars {end}")?;
         let case = answered(script.as_bytes(), out);
@@ -109,6 +139,10 @@ fn whole_answers(rt: HostRuntime) -> Result<(), Fail> {
         (
             "SELECT c.id, d.city FROM cars c, dealers d WHERE c.id <> 2 AND c.dealer = d.name PREFERRING LOWEST(c.price)",
             "ID,CITY\n1,Ulm\n\n",
+        ),
+        (
+            "SELECT c.id, d.city FROM cars c, dealers d WHERE c.dealer = d.name PREFERRING DUAL(LOWEST(c.price) AND d.city = 'Ulm')",
+            "ID,CITY\n3,Bonn\n\n",
         ),
         (
             "SELECT id, color AS colour, LEVEL(color), DISTANCE(price) AS off FROM cars WHERE power >= 150 PREFERRING color IN ('red', 'blue') ELSE color <> 'grey' AND price BETWEEN 38000 AND 42000 CASCADE power IN (180, 200) BUT ONLY DISTANCE(price) <= 5000 ORDER BY colour; -- shop",
@@ -176,6 +210,9 @@ fn as_much_as_the_limits_allow(rt: HostRuntime) -> Result<(), Fail> {
     let close = ")".repeat(alloc, 64)?;
     let nested = format!(in alloc; "SELECT id FROM cars WHERE {open}id = 1{close}")?;
     assert!(rt; ends(alloc, &answered(nested.as_bytes(), "ID\n1\n\n"))?);
+    let duals = "dual(".repeat(alloc, 64)?;
+    let turned = format!(in alloc; "SELECT id FROM cars PREFERRING {duals}id = 1{close}")?;
+    assert!(rt; ends(alloc, &answered(turned.as_bytes(), "ID\n1\n\n"))?);
     let lowest = "LOWEST(id) AND ".repeat(alloc, 7)?;
     let leaves = format!(in alloc; "SELECT id FROM cars PREFERRING {lowest}LOWEST(id)")?;
     assert!(rt; ends(alloc, &answered(leaves.as_bytes(), "ID\n1\n\n"))?);

@@ -27,6 +27,13 @@ fn faults_of_scripts(rt: HostRuntime) -> Result<(), Fail> {
         ("SELECT v FROM big WHERE v = 1000000000000000000", 103, 28),
         ("SELECT id FROM cars PREFERRING LOWEST(price) AND", 202, 48),
         ("SELECT id FROM cars PREFERRING AND", 201, 31),
+        ("SELECT id FROM cars PREFERRING DUAL LOWEST(price)", 201, 36),
+        (
+            "SELECT id FROM cars PREFERRING DUAL(color = 'red') TRIVIAL",
+            201,
+            51,
+        ),
+        ("SELECT id FROM cars PREFERRING DUAL(dealer = 'x')", 306, 36),
         ("SELECT id FROM cars WHERE id != 1", 101, 29),
         ("SELECT id FROM cars WHERE color = 'red", 102, 34),
         ("SELECT id FROM cars;;", 201, 20),

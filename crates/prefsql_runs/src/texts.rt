@@ -19,6 +19,15 @@ fn plans(rt: HostRuntime) -> Result<(), Fail> {
             "SELECT c.id, d.city FROM cars c, dealers d WHERE c.id <> 2 AND c.dealer = d.name PREFERRING LOWEST(c.price)",
             "best P1\n  filter W2\n    join\n      best P1 by T1.DEALER\n        filter W1\n          scan T1 CARS\n      scan T2 DEALERS\n\n",
         ),
+        // no cascade is split at a preference that is turned round
+        (
+            "SELECT id FROM cars PREFERRING DUAL(color = 'red') CASCADE LOWEST(price)",
+            "best ((dual P1) cascade P2)\n  scan T1 CARS\n\n",
+        ),
+        (
+            "SELECT c.id, d.city FROM cars c, dealers d WHERE c.dealer = d.name PREFERRING DUAL(LOWEST(c.price) AND d.city = 'Ulm')",
+            "best (dual (P1 and P2))\n  filter W1\n    join\n      best (dual P1) by T1.DEALER\n        scan T1 CARS\n      best (dual P2) by T2.NAME\n        scan T2 DEALERS\n\n",
+        ),
         // one after the other where each ranks all, and in one step from the first that does not
         (
             "SELECT id FROM cars PREFERRING color = 'red' CASCADE LOWEST(price) CASCADE HIGHEST(power)",
@@ -61,6 +70,10 @@ fn sql_queries(rt: HostRuntime) -> Result<(), Fail> {
         (
             "SELECT id FROM cars PREFERRING LOWEST(price) GROUPING dealer",
             "SELECT \"A1\".\"C1\" AS \"ID\" FROM (SELECT \"T1\".\"ID\" AS \"C1\", \"T1\".\"DEALER\" AS \"C2\", \"T1\".\"PRICE\" AS \"L1\" FROM \"CARS\" AS \"T1\") AS \"A1\" WHERE NOT EXISTS (SELECT 1 AS \"X1\" FROM (SELECT \"T1\".\"ID\" AS \"C1\", \"T1\".\"DEALER\" AS \"C2\", \"T1\".\"PRICE\" AS \"L1\" FROM \"CARS\" AS \"T1\") AS \"A2\" WHERE (\"A2\".\"C2\" = \"A1\".\"C2\" OR \"A2\".\"C2\" IS NULL AND \"A1\".\"C2\" IS NULL) AND \"A2\".\"L1\" < \"A1\".\"L1\");\n",
+        ),
+        (
+            "SELECT id FROM cars PREFERRING DUAL(LOWEST(price))",
+            "SELECT \"A1\".\"C1\" AS \"ID\" FROM (SELECT \"T1\".\"ID\" AS \"C1\", \"T1\".\"PRICE\" AS \"L1\" FROM \"CARS\" AS \"T1\") AS \"A1\" WHERE NOT EXISTS (SELECT 1 AS \"X1\" FROM (SELECT \"T1\".\"ID\" AS \"C1\", \"T1\".\"PRICE\" AS \"L1\" FROM \"CARS\" AS \"T1\") AS \"A2\" WHERE \"A1\".\"L1\" < \"A2\".\"L1\");\n",
         ),
         (
             "SELECT DISTINCT id, dealer AS shop FROM cars WHERE NOT (id = -1 OR dealer IS NULL) AND price NOT BETWEEN 1 AND 2 AND color NOT IN ('it''s') ORDER BY shop DESC, 1",
