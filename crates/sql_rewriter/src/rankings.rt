@@ -104,11 +104,7 @@ fn code_part(
 {
     let mut parts = List::new(alloc);
     let code = number(upper as u32 + 1);
-    parts.push(SqlCond::Compare(
-        CompareOp::Eq,
-        of_upper(turned, column),
-        code,
-    ))?;
+    parts.push(SqlCond::Compare(CompareOp::Eq, of_upper(turned, column), code))?;
     let codes = codes_below(alloc, base, values, upper)?;
     parts.push(SqlCond::OneOf(false, of_lower(turned, column), codes))?;
     Ok(SqlCond::And(parts))
